@@ -95,7 +95,11 @@ fn delay(alloc: Global, form: ExprForm) -> Result<Form, NoMemory> {
 #[test]
 fn gives_back_its_parts(rt: HostRuntime) -> Result<(), Fail> {
     let alloc = rt.alloc();
-    let parts = parts(alloc, Form::Finish, process(alloc, ProcessKind::Initial, None))?;
+    let parts = parts(
+        alloc,
+        Form::Finish,
+        process(alloc, ProcessKind::Initial, None),
+    )?;
     assert!(rt; is_built(&parts));
     let design = Design::new(parts);
     assert_eq!(rt; design.objects().len(), 0);
@@ -106,7 +110,13 @@ fn gives_back_its_parts(rt: HostRuntime) -> Result<(), Fail> {
     assert_eq!(rt; design.body(RoutineId(1)).len(), 0);
     assert_eq!(rt; design.clockings().len(), 0);
     assert_eq!(rt; design.instances().len(), 1);
-    assert_eq!(rt; design.scale(), Scale { unit: 6, precision: 3 });
+    assert_eq!(rt;
+        design.scale(),
+        Scale {
+            unit: 6,
+            precision: 3
+        }
+    );
     assert_eq!(rt; design.scale().unit_ticks(), 1000);
     Ok(())
 }
