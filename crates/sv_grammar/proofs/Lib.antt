@@ -1,0 +1,9 @@
+pub mod Lists
+pub mod Facts
+pub mod Answers
+pub mod Choices
+pub mod Loops
+pub mod Budgets
+pub mod Codes
+pub mod Steps
+pub mod Whole

@@ -1,0 +1,200 @@
+-- The grammar passes the tests: reading it with one token of look-ahead is right.
+use Rattle.std.proofs.Common.{◌≡◌, ℕ, zero, suc, true, false, refl, ◌<◌, ◌-◌, List, arith, sub-one}
+use Rattle.sv_grammar.specs.Tokens.{Tok, mem}
+use Rattle.sv_grammar.specs.Code.{info, fine, least, leads, subset, reach, readers}
+use Rattle.sv_grammar.proofs.Codes.{IsGood}
+use Rattle.sv_tree.specs.Forms.{Production, Expression, Level, Arguments, Repeated, Target, A_type, Statement, Named, Unnamed, Value}
+use Rattle.sv_tree.specs.Grammar.{table, heads, need, reads}
+use Rattle.sv_tree.specs.ExprGrammar.{comma_expr, inner_exprs, select, arguments, suffix, suffixes, post_rest, named_post, this_post, post, targets, lval, system_call, super_call, call, closed, cast, number, time, text, null_, dollar, group, named, this, repeated, braces, word_cast, plain_prim, prim, prefixed, unary, levels, expr_over, expr, plain_unary, plain_expr, cast_rest}
+use Rattle.sv_tree.specs.TypeGrammar.{range, enum_item, enum, word_type, named_type, type, unnamed_implied, typed_name, dim_inside, dim, new_rest, init, declarator_rest, declarator, declarators, more_declarators, word_decl, named_decl_rest}
+use Rattle.sv_tree.specs.StmtGrammar.{amount, delay, cycles_amount, event_part, event_parts, event, assign_end, post_end, named_rest, super_statement, early, block_items, block, fork, if_, arm, arms, case_, step_rest, step, first_part, for_, while_, do_, repeat, forever, foreach, after, at_event, cycles, wait, ignore, return_, unnamed, body, named_statement, stmt}
+use Rattle.sv_tree.specs.UnitGrammar.{param_item, param, unit_param, unit_params, directed_port, plain_port, ports, typedef, argument, arguments as unit_arguments, called, head, routine, skew, default_skew, sides, clocking_item, clocking_rest, clocking, class_decl, member, class_item, class_rest, class, common, named_decl, program_item, connection, connections, instance, second_named, named_item, net_item, net, assign_item, module_item, module_unit, program_unit, unit, file}
+
+-- a production begins only with productions that come before it
+abbrev pub order : Production → ℕ
+order Expression = 0
+order (Level n) = 0
+order Arguments = 0
+order Repeated = 0
+order Target = 0
+order A_type = 0
+order Statement = 0
+order Named = 1
+order Unnamed = 0
+
+passes : (n : Production) → fine Production Value heads need (table n) ≡ true
+unfolding comma_expr inner_exprs select arguments suffix suffixes post_rest named_post this_post post targets lval system_call super_call call closed cast number time text null_ dollar group named this repeated braces word_cast plain_prim prim prefixed unary levels expr_over expr plain_unary plain_expr cast_rest range enum_item enum word_type named_type type unnamed_implied typed_name dim_inside dim new_rest init declarator_rest declarator declarators more_declarators word_decl named_decl_rest amount delay cycles_amount event_part event_parts event assign_end post_end named_rest super_statement early block_items block fork if_ arm arms case_ step_rest step first_part for_ while_ do_ repeat forever foreach after at_event cycles wait ignore return_ unnamed body named_statement stmt
+passes Expression = refl
+passes (Level zero) = refl
+passes (Level (suc zero)) = refl
+passes (Level (suc (suc zero))) = refl
+passes (Level (suc (suc (suc zero)))) = refl
+passes (Level (suc (suc (suc (suc zero))))) = refl
+passes (Level (suc (suc (suc (suc (suc zero)))))) = refl
+passes (Level (suc (suc (suc (suc (suc (suc zero))))))) = refl
+passes (Level (suc (suc (suc (suc (suc (suc (suc zero)))))))) = refl
+passes (Level (suc (suc (suc (suc (suc (suc (suc (suc zero))))))))) = refl
+passes (Level (suc (suc (suc (suc (suc (suc (suc (suc (suc zero)))))))))) = refl
+passes (Level (suc (suc (suc (suc (suc (suc (suc (suc (suc (suc n))))))))))) = refl
+passes Arguments = refl
+passes Repeated = refl
+passes Target = refl
+passes A_type = refl
+passes Statement = refl
+passes Named = refl
+passes Unnamed = refl
+
+begins : (n : Production) → subset (info Production Value heads need (table n)).first (heads n).first ≡ true
+unfolding comma_expr inner_exprs select arguments suffix suffixes post_rest named_post this_post post targets lval system_call super_call call closed cast number time text null_ dollar group named this repeated braces word_cast plain_prim prim prefixed unary levels expr_over expr plain_unary plain_expr cast_rest range enum_item enum word_type named_type type unnamed_implied typed_name dim_inside dim new_rest init declarator_rest declarator declarators more_declarators word_decl named_decl_rest amount delay cycles_amount event_part event_parts event assign_end post_end named_rest super_statement early block_items block fork if_ arm arms case_ step_rest step first_part for_ while_ do_ repeat forever foreach after at_event cycles wait ignore return_ unnamed body named_statement stmt
+begins Expression = refl
+begins (Level zero) = refl
+begins (Level (suc zero)) = refl
+begins (Level (suc (suc zero))) = refl
+begins (Level (suc (suc (suc zero)))) = refl
+begins (Level (suc (suc (suc (suc zero))))) = refl
+begins (Level (suc (suc (suc (suc (suc zero)))))) = refl
+begins (Level (suc (suc (suc (suc (suc (suc zero))))))) = refl
+begins (Level (suc (suc (suc (suc (suc (suc (suc zero)))))))) = refl
+begins (Level (suc (suc (suc (suc (suc (suc (suc (suc zero))))))))) = refl
+begins (Level (suc (suc (suc (suc (suc (suc (suc (suc (suc zero)))))))))) = refl
+begins (Level (suc (suc (suc (suc (suc (suc (suc (suc (suc (suc n))))))))))) = refl
+begins Arguments = refl
+begins Repeated = refl
+begins Target = refl
+begins A_type = refl
+begins Statement = refl
+begins Named = refl
+begins Unnamed = refl
+
+begun : (n : Production) → subset (heads n).first (info Production Value heads need (table n)).first ≡ true
+unfolding comma_expr inner_exprs select arguments suffix suffixes post_rest named_post this_post post targets lval system_call super_call call closed cast number time text null_ dollar group named this repeated braces word_cast plain_prim prim prefixed unary levels expr_over expr plain_unary plain_expr cast_rest range enum_item enum word_type named_type type unnamed_implied typed_name dim_inside dim new_rest init declarator_rest declarator declarators more_declarators word_decl named_decl_rest amount delay cycles_amount event_part event_parts event assign_end post_end named_rest super_statement early block_items block fork if_ arm arms case_ step_rest step first_part for_ while_ do_ repeat forever foreach after at_event cycles wait ignore return_ unnamed body named_statement stmt
+begun Expression = refl
+begun (Level zero) = refl
+begun (Level (suc zero)) = refl
+begun (Level (suc (suc zero))) = refl
+begun (Level (suc (suc (suc zero)))) = refl
+begun (Level (suc (suc (suc (suc zero))))) = refl
+begun (Level (suc (suc (suc (suc (suc zero)))))) = refl
+begun (Level (suc (suc (suc (suc (suc (suc zero))))))) = refl
+begun (Level (suc (suc (suc (suc (suc (suc (suc zero)))))))) = refl
+begun (Level (suc (suc (suc (suc (suc (suc (suc (suc zero))))))))) = refl
+begun (Level (suc (suc (suc (suc (suc (suc (suc (suc (suc zero)))))))))) = refl
+begun (Level (suc (suc (suc (suc (suc (suc (suc (suc (suc (suc n))))))))))) = refl
+begun Arguments = refl
+begun Repeated = refl
+begun Target = refl
+begun A_type = refl
+begun Statement = refl
+begun Named = refl
+begun Unnamed = refl
+
+continues : (n : Production) → subset (info Production Value heads need (table n)).cont (heads n).cont ≡ true
+unfolding comma_expr inner_exprs select arguments suffix suffixes post_rest named_post this_post post targets lval system_call super_call call closed cast number time text null_ dollar group named this repeated braces word_cast plain_prim prim prefixed unary levels expr_over expr plain_unary plain_expr cast_rest range enum_item enum word_type named_type type unnamed_implied typed_name dim_inside dim new_rest init declarator_rest declarator declarators more_declarators word_decl named_decl_rest amount delay cycles_amount event_part event_parts event assign_end post_end named_rest super_statement early block_items block fork if_ arm arms case_ step_rest step first_part for_ while_ do_ repeat forever foreach after at_event cycles wait ignore return_ unnamed body named_statement stmt
+continues Expression = refl
+continues (Level zero) = refl
+continues (Level (suc zero)) = refl
+continues (Level (suc (suc zero))) = refl
+continues (Level (suc (suc (suc zero)))) = refl
+continues (Level (suc (suc (suc (suc zero))))) = refl
+continues (Level (suc (suc (suc (suc (suc zero)))))) = refl
+continues (Level (suc (suc (suc (suc (suc (suc zero))))))) = refl
+continues (Level (suc (suc (suc (suc (suc (suc (suc zero)))))))) = refl
+continues (Level (suc (suc (suc (suc (suc (suc (suc (suc zero))))))))) = refl
+continues (Level (suc (suc (suc (suc (suc (suc (suc (suc (suc zero)))))))))) = refl
+continues (Level (suc (suc (suc (suc (suc (suc (suc (suc (suc (suc n))))))))))) = refl
+continues Arguments = refl
+continues Repeated = refl
+continues Target = refl
+continues A_type = refl
+continues Statement = refl
+continues Named = refl
+continues Unnamed = refl
+
+empties : (n : Production) → (info Production Value heads need (table n)).null ≡ (heads n).null
+unfolding comma_expr inner_exprs select arguments suffix suffixes post_rest named_post this_post post targets lval system_call super_call call closed cast number time text null_ dollar group named this repeated braces word_cast plain_prim prim prefixed unary levels expr_over expr plain_unary plain_expr cast_rest range enum_item enum word_type named_type type unnamed_implied typed_name dim_inside dim new_rest init declarator_rest declarator declarators more_declarators word_decl named_decl_rest amount delay cycles_amount event_part event_parts event assign_end post_end named_rest super_statement early block_items block fork if_ arm arms case_ step_rest step first_part for_ while_ do_ repeat forever foreach after at_event cycles wait ignore return_ unnamed body named_statement stmt
+empties Expression = refl
+empties (Level zero) = refl
+empties (Level (suc zero)) = refl
+empties (Level (suc (suc zero))) = refl
+empties (Level (suc (suc (suc zero)))) = refl
+empties (Level (suc (suc (suc (suc zero))))) = refl
+empties (Level (suc (suc (suc (suc (suc zero)))))) = refl
+empties (Level (suc (suc (suc (suc (suc (suc zero))))))) = refl
+empties (Level (suc (suc (suc (suc (suc (suc (suc zero)))))))) = refl
+empties (Level (suc (suc (suc (suc (suc (suc (suc (suc zero))))))))) = refl
+empties (Level (suc (suc (suc (suc (suc (suc (suc (suc (suc zero)))))))))) = refl
+empties (Level (suc (suc (suc (suc (suc (suc (suc (suc (suc (suc n))))))))))) = refl
+empties Arguments = refl
+empties Repeated = refl
+empties Target = refl
+empties A_type = refl
+empties Statement = refl
+empties Named = refl
+empties Unnamed = refl
+
+needs : (n : Production) → least Production Value heads need (table n) ≡ need n
+unfolding comma_expr inner_exprs select arguments suffix suffixes post_rest named_post this_post post targets lval system_call super_call call closed cast number time text null_ dollar group named this repeated braces word_cast plain_prim prim prefixed unary levels expr_over expr plain_unary plain_expr cast_rest range enum_item enum word_type named_type type unnamed_implied typed_name dim_inside dim new_rest init declarator_rest declarator declarators more_declarators word_decl named_decl_rest amount delay cycles_amount event_part event_parts event assign_end post_end named_rest super_statement early block_items block fork if_ arm arms case_ step_rest step first_part for_ while_ do_ repeat forever foreach after at_event cycles wait ignore return_ unnamed body named_statement stmt
+needs Expression = refl
+needs (Level zero) = refl
+needs (Level (suc zero)) = refl
+needs (Level (suc (suc zero))) = refl
+needs (Level (suc (suc (suc zero)))) = refl
+needs (Level (suc (suc (suc (suc zero))))) = refl
+needs (Level (suc (suc (suc (suc (suc zero)))))) = refl
+needs (Level (suc (suc (suc (suc (suc (suc zero))))))) = refl
+needs (Level (suc (suc (suc (suc (suc (suc (suc zero)))))))) = refl
+needs (Level (suc (suc (suc (suc (suc (suc (suc (suc zero))))))))) = refl
+needs (Level (suc (suc (suc (suc (suc (suc (suc (suc (suc zero)))))))))) = refl
+needs (Level (suc (suc (suc (suc (suc (suc (suc (suc (suc (suc n))))))))))) = refl
+needs Arguments = refl
+needs Repeated = refl
+needs Target = refl
+needs A_type = refl
+needs Statement = refl
+needs Named = refl
+needs Unnamed = refl
+
+led : (n : Production) → leads Production Value heads need (λ m. reach (suc (order m)) (order n)) (table n) ≡ true
+unfolding comma_expr inner_exprs select arguments suffix suffixes post_rest named_post this_post post targets lval system_call super_call call closed cast number time text null_ dollar group named this repeated braces word_cast plain_prim prim prefixed unary levels expr_over expr plain_unary plain_expr cast_rest range enum_item enum word_type named_type type unnamed_implied typed_name dim_inside dim new_rest init declarator_rest declarator declarators more_declarators word_decl named_decl_rest amount delay cycles_amount event_part event_parts event assign_end post_end named_rest super_statement early block_items block fork if_ arm arms case_ step_rest step first_part for_ while_ do_ repeat forever foreach after at_event cycles wait ignore return_ unnamed body named_statement stmt
+led Expression = refl
+led (Level zero) = refl
+led (Level (suc zero)) = refl
+led (Level (suc (suc zero))) = refl
+led (Level (suc (suc (suc zero)))) = refl
+led (Level (suc (suc (suc (suc zero))))) = refl
+led (Level (suc (suc (suc (suc (suc zero)))))) = refl
+led (Level (suc (suc (suc (suc (suc (suc zero))))))) = refl
+led (Level (suc (suc (suc (suc (suc (suc (suc zero)))))))) = refl
+led (Level (suc (suc (suc (suc (suc (suc (suc (suc zero))))))))) = refl
+led (Level (suc (suc (suc (suc (suc (suc (suc (suc (suc zero)))))))))) = refl
+led (Level (suc (suc (suc (suc (suc (suc (suc (suc (suc (suc n))))))))))) = refl
+led Arguments = refl
+led Repeated = refl
+led Target = refl
+led A_type = refl
+led Statement = refl
+led Named = refl
+led Unnamed = refl
+
+pub good : IsGood Production Value heads need table
+good = record { order = order; fine_ = passes; first1 = begins; first2 = begun; cont_ = continues; null_ = empties; least_ = needs; leads_ = led }
+
+-- a production that is one deeper, at a budget that is not 0
+pub inner_is : (d : ℕ) → 0 < d → (n : Production) (ts : List Tok) → readers Production Value heads need table d n ts ≡ reads (d - 1) (table n) ts
+inner_is zero h n ts = absurd (omega arith)
+inner_is (suc d) h n ts = rw sub-one refl
+
+-- ---- the whole file
+
+pub file_fine : fine Production Value heads need file ≡ true
+unfolding comma_expr inner_exprs select arguments suffix suffixes post_rest named_post this_post post targets lval system_call super_call call closed cast number time text null_ dollar group named this repeated braces word_cast plain_prim prim prefixed unary levels expr_over expr plain_unary plain_expr cast_rest range enum_item enum word_type named_type type unnamed_implied typed_name dim_inside dim new_rest init declarator_rest declarator declarators more_declarators word_decl named_decl_rest amount delay cycles_amount event_part event_parts event assign_end post_end named_rest super_statement early block_items block fork if_ arm arms case_ step_rest step first_part for_ while_ do_ repeat forever foreach after at_event cycles wait ignore return_ unnamed body named_statement stmt param_item param unit_param unit_params directed_port plain_port ports typedef argument called head routine skew default_skew sides clocking_item clocking_rest clocking class_decl member class_item class_rest class common named_decl program_item connection connections instance second_named named_item net_item net assign_item module_item module_unit program_unit unit file unit_arguments
+file_fine = refl
+
+-- no text of a file goes on past its end
+pub file_nil : mem 0 (info Production Value heads need file).cont ≡ false
+unfolding comma_expr inner_exprs select arguments suffix suffixes post_rest named_post this_post post targets lval system_call super_call call closed cast number time text null_ dollar group named this repeated braces word_cast plain_prim prim prefixed unary levels expr_over expr plain_unary plain_expr cast_rest range enum_item enum word_type named_type type unnamed_implied typed_name dim_inside dim new_rest init declarator_rest declarator declarators more_declarators word_decl named_decl_rest amount delay cycles_amount event_part event_parts event assign_end post_end named_rest super_statement early block_items block fork if_ arm arms case_ step_rest step first_part for_ while_ do_ repeat forever foreach after at_event cycles wait ignore return_ unnamed body named_statement stmt param_item param unit_param unit_params directed_port plain_port ports typedef argument called head routine skew default_skew sides clocking_item clocking_rest clocking class_decl member class_item class_rest class common named_decl program_item connection connections instance second_named named_item net_item net assign_item module_item module_unit program_unit unit file unit_arguments
+file_nil = refl
+
+pub file_least : least Production Value heads need file ≡ 0
+unfolding comma_expr inner_exprs select arguments suffix suffixes post_rest named_post this_post post targets lval system_call super_call call closed cast number time text null_ dollar group named this repeated braces word_cast plain_prim prim prefixed unary levels expr_over expr plain_unary plain_expr cast_rest range enum_item enum word_type named_type type unnamed_implied typed_name dim_inside dim new_rest init declarator_rest declarator declarators more_declarators word_decl named_decl_rest amount delay cycles_amount event_part event_parts event assign_end post_end named_rest super_statement early block_items block fork if_ arm arms case_ step_rest step first_part for_ while_ do_ repeat forever foreach after at_event cycles wait ignore return_ unnamed body named_statement stmt param_item param unit_param unit_params directed_port plain_port ports typedef argument called head routine skew default_skew sides clocking_item clocking_rest clocking class_decl member class_item class_rest class common named_decl program_item connection connections instance second_named named_item net_item net assign_item module_item module_unit program_unit unit file unit_arguments
+file_least = refl

@@ -1,0 +1,317 @@
+-- The grammar of statements (IEEE 1800-2017, A.6).
+use Rattle.std.specs.Prelude.{Bool, true, false, List, [], ◌∷◌, Option, Some, None}
+use Rattle.sv_value.specs.declared.place.Place.{Place}
+use Rattle.sv_grammar.specs.Tokens.{Tok}
+use Rattle.sv_grammar.specs.Code.Code.{Done, Seq, Map, Alt, Opt, Rep, Items, Inner}
+use Rattle.sv_tree.specs.declared.kind.Kind.{Kind}
+use Rattle.sv_tree.specs.declared.kind.Kind.TheVariants as k
+use Rattle.sv_tree.specs.declared.word.Name.{Name}
+use Rattle.sv_tree.specs.declared.word.BinaryWord.{BinaryWord}
+use Rattle.sv_tree.specs.declared.word.BinaryWord.TheVariants as binary_word
+use Rattle.sv_tree.specs.declared.word.CaseWord.{CaseWord}
+use Rattle.sv_tree.specs.declared.word.CaseWord.TheVariants as case_word
+use Rattle.sv_tree.specs.declared.word.JoinWord.{JoinWord}
+use Rattle.sv_tree.specs.declared.word.JoinWord.TheVariants as join_word
+use Rattle.sv_tree.specs.declared.word.EdgeWord.{EdgeWord}
+use Rattle.sv_tree.specs.declared.word.EdgeWord.TheVariants as edge_word
+use Rattle.sv_tree.specs.declared.word.StepWord.{StepWord}
+use Rattle.sv_tree.specs.declared.word.StepWord.TheVariants as step_word
+use Rattle.sv_tree.specs.declared.expr.Root.{Root}
+use Rattle.sv_tree.specs.declared.expr.Root.TheVariants as root
+use Rattle.sv_tree.specs.Expr as tree
+use Rattle.sv_tree.specs.Written as written
+use Rattle.sv_tree.specs.Stmt as stmts
+use Rattle.sv_tree.specs.Forms.{Named, Unnamed, Placed, C, Words, tok, any_of, word, chosen, ◌▸◌, ◌◂◌, both, three, four, then_, optional, otherwise, list, in_parentheses, in_brackets, name_of, name, label, statement, stacked, exprs}
+use Rattle.sv_tree.specs.ExprGrammar.{expr, lval, targets, suffixes, scoped, named_root, this_post, system_call, super_new, call, maybe_arguments}
+use Rattle.sv_tree.specs.TypeGrammar.{word_type, init, word_decl, named_decl_rest}
+
+-- a form, at a place
+abbrev pub placed : Place → stmts.Body → Placed
+placed at b = record { at = at; body = b }
+
+-- a form that a word begins, at the word
+abbrev pub form : Kind → C stmts.Body → C Placed
+form t b = both (λ t b. placed t.at b) (tok t) b
+
+-- ---- parts
+
+-- number | time | id | "(" expr ")"
+unfoldable pub amount : C tree.Expr
+amount =
+    Alt (Map (λ t. tree.Number t.at t.text) (tok k.Number))
+    (Alt (Map (λ t. tree.Time t.at t.text) (tok k.TimeLiteral))
+    (Alt (Map (λ n. tree.Post (root.Plain n) tree.NoSuffix) name) (in_parentheses expr)))
+
+-- delay = "#" (number | time | id | "(" expr ")")
+unfoldable pub delay : C stmts.Delay
+delay = both (λ t e. record { at = t.at; amount = e }) (tok k.Hash) amount
+
+-- number | id | "(" expr ")"
+unfoldable pub cycles_amount : C tree.Expr
+cycles_amount =
+    Alt (Map (λ t. tree.Number t.at t.text) (tok k.Number))
+    (Alt (Map (λ n. tree.Post (root.Plain n) tree.NoSuffix) name) (in_parentheses expr))
+
+-- "posedge" | "negedge"
+abbrev pub edge_words : Words EdgeWord
+edge_words = (k.Posedge, edge_word.Posedge) ∷ (k.Negedge, edge_word.Negedge) ∷ []
+
+-- ["posedge" | "negedge"]
+abbrev pub edge : C EdgeWord
+edge = otherwise edge_word.Unwritten (Map (λ t. chosen edge_word.Negedge edge_words t.code) (word edge_words))
+
+-- ev = ["posedge" | "negedge"] expr ["iff" expr]
+unfoldable pub event_part : C stmts.EventPart
+event_part = three (λ w e c. record { edge = w; expr = e; condition = c }) edge expr (optional (k.Iff ▸ expr))
+
+-- ev {("or" | ",") ev}
+unfoldable pub event_parts : C (List stmts.EventPart)
+event_parts = both (λ p ps. p ∷ ps) event_part (Rep (Map (λ p. p.1) (Seq (any_of (k.Or ∷ k.Comma ∷ [])) event_part)))
+
+-- event = id | "*" | "(" "*" ")" | "(" ev {("or" | ",") ev} ")"
+unfoldable pub event : C stmts.Event
+event =
+    Alt (Map stmts.On name)
+    (Alt (Map (λ t. stmts.Star) (tok k.Star))
+    (k.LeftParenthesis ▸ Alt (Map (λ t. stmts.Star) (tok k.Star ◂ k.RightParenthesis)) (Map stmts.Parts (event_parts ◂ k.RightParenthesis))))
+
+-- aop
+abbrev pub assign_words : Words BinaryWord
+assign_words = (k.PlusEquals, binary_word.Plus) ∷ (k.MinusEquals, binary_word.Minus) ∷ (k.StarEquals, binary_word.Times) ∷ (k.SlashEquals, binary_word.Over) ∷ (k.PercentEquals, binary_word.Remainder) ∷ (k.AmpersandEquals, binary_word.And) ∷ (k.BarEquals, binary_word.Or) ∷ (k.CaretEquals, binary_word.Xor) ∷ (k.ShiftLeftEquals, binary_word.ShiftLeft) ∷ (k.ShiftRightEquals, binary_word.ShiftRight) ∷ (k.ShiftLeftSignedEquals, binary_word.ShiftLeftSigned) ∷ (k.ShiftRightSignedEquals, binary_word.ShiftRightSigned) ∷ []
+
+-- the operator of an assignment
+abbrev pub assign_word : Tok → BinaryWord
+assign_word t = chosen binary_word.ShiftRightSigned assign_words t.code
+
+-- "++" | "--"
+abbrev pub step_words : Words StepWord
+step_words = (k.PlusPlus, step_word.Increment) ∷ (k.MinusMinus, step_word.Decrement) ∷ []
+
+-- the word of a token
+abbrev pub step_word_of : Tok → StepWord
+step_word_of t = chosen step_word.Decrement step_words t.code
+
+-- ---- assignments and calls
+
+-- what follows the target of an assignment
+unfoldable pub assign_end : C (tree.Lval → stmts.Body)
+assign_end =
+    Alt (both (λ d i l. stmts.Assign l d i) (k.Equals ▸ optional delay) (init ◂ k.Semicolon))
+    (Alt (both (λ d e l. stmts.Later l d e) (k.LessEquals ▸ optional delay) (expr ◂ k.Semicolon))
+    (Alt (both (λ t e l. stmts.Op l (assign_word t) e) (word assign_words) (expr ◂ k.Semicolon))
+    (Map (λ t l. stmts.Step l (step_word_of t)) (word step_words ◂ k.Semicolon))))
+
+-- what follows a name with its suffixes: an assignment to it, or the end of a call
+unfoldable pub post_end : C (Root × tree.Suffixes → stmts.Body)
+post_end = Alt (Map (λ f p. f (tree.Target p.0 p.1)) assign_end) (Map (λ t p. stmts.Call (tree.Post p.0 p.1)) (tok k.Semicolon))
+
+-- what follows the name at the front of an assignment or a call
+unfoldable pub named_rest : C (Name → stmts.Body)
+named_rest = three (λ m s f n. f (named_root n m, s)) scoped suffixes post_end
+
+-- "super" "." ("new" [actuals] ";" | id {..} ..)
+unfoldable pub super_statement : C Placed
+super_statement = then_ (tok k.Super ◂ k.Dot) (Alt (both (λ w b t. placed t.at (stmts.Call (super_new w.at b t))) (tok k.New) (maybe_arguments ◂ k.Semicolon)) (three (λ n s f t. placed t.at (f (root.Super t.at n, s))) name suffixes post_end))
+
+-- ---- blocks
+
+-- an item of a block
+pub data BlockItem : Type 0 where
+  Declared : stmts.Decl → BlockItem
+  Made : stmts.Stmt → BlockItem
+
+-- whether an item is a statement
+abbrev pub is_statement : BlockItem → Bool
+is_statement (Declared d) = false
+is_statement (Made s) = true
+
+-- the declarations among items
+abbrev pub decls_of : List BlockItem → List stmts.Decl
+decls_of [] = []
+decls_of (Declared d ∷ is) = d ∷ decls_of is
+decls_of (Made s ∷ is) = decls_of is
+
+-- the statements among items
+abbrev pub stmts_of : List BlockItem → stmts.Stmts
+stmts_of [] = stmts.NoStmt
+stmts_of (Declared d ∷ is) = stmts_of is
+stmts_of (Made s ∷ is) = stmts.AndStmt s (stmts_of is)
+
+-- a statement without a label
+abbrev pub unlabelled : Placed → stmts.Stmt
+unlabelled p = stmts.At p.at None p.body
+
+-- an item before the first statement; a name that a name follows is the type of a declaration
+unfoldable pub early : C BlockItem
+early =
+    Alt (then_ (tok k.Name) (Alt (Map (λ f t. Declared (f (name_of t))) named_decl_rest) (Map (λ f t. Made (f t)) (Inner Named))))
+    (Alt (Map Declared word_decl) (Map (λ p. Made (unlabelled p)) (Inner Unnamed)))
+
+-- {decl} {stmt}
+unfoldable pub block_items : C (List BlockItem)
+block_items = Items is_statement early (Map Made statement)
+
+-- a block of items
+abbrev pub block_of : Option Name → List BlockItem → Option Name → stmts.Body
+block_of n is e = stmts.Block n (decls_of is) (stmts_of is) e
+
+-- "join" | "join_any" | "join_none"
+abbrev pub join_words : Words JoinWord
+join_words = (k.Join, join_word.All) ∷ (k.JoinAny, join_word.Any) ∷ (k.JoinNone, join_word.None) ∷ []
+
+-- a fork of items
+abbrev pub fork_of : Option Name → List BlockItem → Tok → Option Name → stmts.Body
+fork_of n is j e = stmts.Fork n (decls_of is) (stmts_of is) (chosen join_word.None join_words j.code) e
+
+-- "begin" [":" id] {decl} {stmt} "end" [":" id]
+unfoldable pub block : C Placed
+block = form k.Begin (three block_of label block_items (k.End ▸ label))
+
+-- "fork" [":" id] {decl} {stmt} ("join" | "join_any" | "join_none") [":" id]
+unfoldable pub fork : C Placed
+fork = form k.Fork (four fork_of label block_items (word join_words) label)
+
+-- ---- choices and loops
+
+-- an else belongs to the nearest if
+unfoldable pub if_ : C Placed
+if_ = form k.If (three (λ e s f. f e s) (in_parentheses expr) statement (Opt stmts.If (Map (λ r e s. stmts.IfElse e s r) (k.Else ▸ statement))))
+
+-- "case" | "casez" | "casex"
+abbrev pub case_words : Words CaseWord
+case_words = (k.Case, case_word.Exact) ∷ (k.Casez, case_word.Z) ∷ (k.Casex, case_word.X) ∷ []
+
+-- list(expr) ":" stmt | "default" [":"] stmt
+unfoldable pub arm : C (stmts.Arms → stmts.Arms)
+arm =
+    Alt (Map (λ s rest. stmts.Default s rest) (k.Default ▸ Map (λ p. p.1) (Seq (optional (tok k.Colon)) statement)))
+    (both (λ es s rest. stmts.Labels (exprs es) s rest) (list expr ◂ k.Colon) statement)
+
+-- {list(expr) ":" stmt | "default" [":"] stmt}
+unfoldable pub arms : C stmts.Arms
+arms = Map (stacked stmts.NoArm) (Rep arm)
+
+-- ("case" | "casez" | "casex") "(" expr ")" {..} "endcase"
+unfoldable pub case_ : C Placed
+case_ = three (λ t e as_. placed t.at (stmts.Case (chosen case_word.X case_words t.code) e as_)) (word case_words) (in_parentheses expr) (arms ◂ k.Endcase)
+
+-- step = lval ("=" | aop) expr | lval ("++" | "--") | ("++" | "--") lval
+unfoldable pub step_rest : C (tree.Lval → Place → stmts.Last)
+step_rest =
+    Alt (Map (λ e l at. stmts.Then l e) (k.Equals ▸ expr))
+    (Alt (both (λ t e l at. stmts.ThenOp l (assign_word t) e) (word assign_words) expr)
+    (Map (λ t l at. stmts.ThenStep at l (step_word_of t)) (word step_words)))
+
+-- the place of the first token of a target
+abbrev pub place_of_target : tree.Lval → Place
+place_of_target (tree.Target r s) = tree.place_of_root r
+place_of_target (tree.Targets at ls) = at
+
+-- step
+unfoldable pub step : C stmts.Last
+step = Alt (both (λ l f. f l (place_of_target l)) lval step_rest) (both (λ t l. stmts.ThenStep t.at l (step_word_of t)) (word step_words) lval)
+
+-- type id "=" expr | lval "=" expr
+unfoldable pub first_part : C stmts.First
+first_part =
+    Alt (then_ name (Alt (both (λ n e t. stmts.Declare (written.Named t) n e) name (k.Equals ▸ expr)) (three (λ m s e n. stmts.Begin (tree.Target (named_root n m) s) e) scoped suffixes (k.Equals ▸ expr))))
+    (Alt (three stmts.Declare word_type name (k.Equals ▸ expr))
+    (both stmts.Begin
+    (Alt (Map (λ p. tree.Target p.0 p.1) this_post) (Alt (three (λ t n s. tree.Target (root.Super t.at n) s) (tok k.Super ◂ k.Dot) name suffixes) targets))
+    (k.Equals ▸ expr)))
+
+-- "for" "(" .. ";" expr ";" step ")" stmt
+unfoldable pub for_ : C Placed
+for_ = form k.For (four stmts.For (k.LeftParenthesis ▸ first_part ◂ k.Semicolon) (expr ◂ k.Semicolon) (step ◂ k.RightParenthesis) statement)
+
+-- "while" "(" expr ")" stmt
+unfoldable pub while_ : C Placed
+while_ = form k.While (both stmts.While (in_parentheses expr) statement)
+
+-- "do" stmt "while" "(" expr ")" ";"
+unfoldable pub do_ : C Placed
+do_ = form k.Do (both stmts.Do statement (k.While ▸ in_parentheses expr ◂ k.Semicolon))
+
+-- "repeat" "(" expr ")" stmt
+unfoldable pub repeat : C Placed
+repeat = form k.Repeat (both stmts.Repeat (in_parentheses expr) statement)
+
+-- "forever" stmt
+unfoldable pub forever : C Placed
+forever = form k.Forever (Map stmts.Forever statement)
+
+-- "foreach" "(" id "[" id "]" ")" stmt
+unfoldable pub foreach : C Placed
+foreach = form k.Foreach (three stmts.Foreach (k.LeftParenthesis ▸ name) (in_brackets name ◂ k.RightParenthesis) statement)
+
+-- delay stmt
+unfoldable pub after : C Placed
+after = both (λ d s. placed d.at (stmts.After d s)) delay statement
+
+-- "@" event stmt
+unfoldable pub at_event : C Placed
+at_event = form k.At (both stmts.On_event event statement)
+
+-- "##" (number | id | "(" expr ")") stmt
+unfoldable pub cycles : C Placed
+cycles = three (λ t e s. placed t.at (stmts.Cycles t.at e s)) (tok k.HashHash) cycles_amount statement
+
+-- "wait" "(" expr ")" stmt | "wait" "fork" ";"
+unfoldable pub wait : C Placed
+wait = then_ (tok k.Wait) (Alt (both (λ e s t. placed t.at (stmts.Wait t.at e s)) (in_parentheses expr) statement) (Map (λ u t. placed t.at stmts.WaitFork) (k.Fork ▸ tok k.Semicolon)))
+
+-- "void" "'" "(" call ")" ";"
+unfoldable pub ignore : C Placed
+ignore = both (λ t e. placed t.at (stmts.Ignore t.at e)) (tok k.Void ◂ k.Apostrophe) (in_parentheses call ◂ k.Semicolon)
+
+-- "return" [expr] ";"
+unfoldable pub return_ : C Placed
+return_ = form k.Return (Map stmts.Return (optional expr ◂ k.Semicolon))
+
+-- ---- statements
+
+-- a form that begins with no name
+unfoldable pub unnamed : C Placed
+unnamed =
+    Alt (form k.Semicolon (Done stmts.Null))
+    (Alt block
+    (Alt fork
+    (Alt (both (λ t l. placed t.at (stmts.Step l (step_word_of t))) (word step_words) (lval ◂ k.Semicolon))
+    (Alt (Map (λ e. placed (tree.place_of e) (stmts.Call e)) (system_call ◂ k.Semicolon))
+    (Alt super_statement
+    (Alt (both (λ p f. placed (tree.place_of_root p.0) (f p)) this_post post_end)
+    (Alt (both (λ l f. placed (place_of_target l) (f l)) targets assign_end)
+    (Alt ignore
+    (Alt if_
+    (Alt case_
+    (Alt for_
+    (Alt while_
+    (Alt do_
+    (Alt repeat
+    (Alt forever
+    (Alt foreach
+    (Alt after
+    (Alt at_event
+    (Alt cycles
+    (Alt wait
+    (Alt (form k.Disable (Map (λ t. stmts.DisableFork) (k.Fork ▸ tok k.Semicolon)))
+    (Alt (form k.Arrow (Map stmts.Trigger (lval ◂ k.Semicolon)))
+    (Alt (form k.Break (Map (λ t. stmts.Break) (tok k.Semicolon)))
+    (Alt (form k.Continue (Map (λ t. stmts.Continue) (tok k.Semicolon)))
+    return_))))))))))))))))))))))))
+
+-- a form that begins with a name
+abbrev pub named_body : C Placed
+named_body = both (λ t f. placed t.at (f (name_of t))) (tok k.Name) named_rest
+
+-- body
+unfoldable pub body : C Placed
+body = Alt named_body unnamed
+
+-- a name at the front is a label, a target or a call
+unfoldable pub named_statement : C (Tok → stmts.Stmt)
+named_statement = Alt (Map (λ p t. stmts.At p.at (Some (name_of t)) p.body) (k.Colon ▸ body)) (Map (λ f t. stmts.At t.at None (f (name_of t))) named_rest)
+
+-- stmt = [id ":"] body
+unfoldable pub stmt : C stmts.Stmt
+stmt = Alt (then_ (tok k.Name) named_statement) (Map unlabelled unnamed)

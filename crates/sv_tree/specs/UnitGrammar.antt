@@ -1,0 +1,342 @@
+-- The grammar of units and their items (IEEE 1800-2017, A.1).
+use Rattle.std.specs.Prelude.{Bool, true, false, ◌==◌, List, [], ◌∷◌, Option, Some, None, codes}
+use Rattle.std.specs.List.{list_any}
+use Rattle.sv_value.specs.declared.place.Place.{Place}
+use Rattle.sv_grammar.specs.Tokens.{Tok}
+use Rattle.sv_grammar.specs.Code.Code.{Seq, Map, Alt, Rep}
+use Rattle.sv_tree.specs.declared.kind.Kind.{Kind}
+use Rattle.sv_tree.specs.declared.kind.Kind.TheVariants as k
+use Rattle.sv_tree.specs.declared.word.Name.{Name}
+use Rattle.sv_tree.specs.declared.word.Life.{Life}
+use Rattle.sv_tree.specs.declared.word.Life.TheVariants as life_word
+use Rattle.sv_tree.specs.declared.word.Direction.{Direction}
+use Rattle.sv_tree.specs.declared.word.Direction.TheVariants as direction
+use Rattle.sv_tree.specs.declared.word.Procedure.{Procedure}
+use Rattle.sv_tree.specs.declared.word.Procedure.TheVariants as procedure
+use Rattle.sv_tree.specs.declared.unit.Qualifiers.{Qualifiers}
+use Rattle.sv_tree.specs.Codes.{code}
+use Rattle.sv_tree.specs.Expr as tree
+use Rattle.sv_tree.specs.Written as written
+use Rattle.sv_tree.specs.Stmt as stmts
+use Rattle.sv_tree.specs.Units as units
+use Rattle.sv_tree.specs.Forms.{C, Words, tok, any_of, word, chosen, ◌▸◌, ◌◂◌, both, three, four, then_, optional, otherwise, list, list_or_none, in_parentheses, name, label, statement}
+use Rattle.sv_tree.specs.ExprGrammar.{expr, lval}
+use Rattle.sv_tree.specs.TypeGrammar.{range, sign, type, word_type, named_type, unnamed_implied, names_of, typed_name, declarators, decl_of, life, word_decl, named_decl_rest}
+use Rattle.sv_tree.specs.StmtGrammar.{amount, edge, block_items, decls_of, stmts_of}
+
+-- [life]
+abbrev pub maybe_life : C Life
+maybe_life = otherwise life_word.Unwritten life
+
+-- ---- parameters and ports
+
+-- parameters of one type
+abbrev pub param_of : Bool → written.Implied → List units.ParamItem → units.Param
+param_of is_local t ns = record { is_local = is_local; type = t; names = ns }
+
+-- a parameter and its value
+abbrev pub param_item_of : Name → tree.Expr → units.ParamItem
+param_item_of n e = record { name = n; value = e }
+
+-- id "=" expr
+unfoldable pub param_item : C units.ParamItem
+param_item = both param_item_of name (k.Equals ▸ expr)
+
+-- "parameter" | "localparam"
+abbrev pub param_words : Words Bool
+param_words = (k.Parameter, false) ∷ (k.Localparam, true) ∷ []
+
+-- param = ("parameter" | "localparam") [itype] list(id "=" expr)
+unfoldable pub param : C units.Param
+param = four (λ t p e ps. param_of (chosen true param_words t.code) p.0 (param_item_of p.1 e ∷ ps)) (word param_words) typed_name (k.Equals ▸ expr) (Rep (k.Comma ▸ param_item))
+
+-- ["parameter"] [itype] id "=" expr
+unfoldable pub unit_param : C units.Param
+unit_param = three (λ o p e. param_of false p.0 (param_item_of p.1 e ∷ [])) (optional (tok k.Parameter)) typed_name (k.Equals ▸ expr)
+
+-- pports = "#" "(" list(["parameter"] [itype] id "=" expr) ")"
+unfoldable pub unit_params : C (List units.Param)
+unit_params = k.Hash ▸ in_parentheses (list unit_param)
+
+-- "input" | "output"
+abbrev pub directions : Words Direction
+directions = (k.Input, direction.Input) ∷ (k.Output, direction.Output) ∷ []
+
+-- "wire" | "tri"
+abbrev pub net_words : List Kind
+net_words = k.Wire ∷ k.Tri ∷ []
+
+-- whether something is written
+abbrev pub is_some : {A : Type 0} → Option A → Bool
+is_some None = false
+is_some (Some x) = true
+
+-- ("input" | "output") ["wire" | "tri"] [itype] id
+unfoldable pub directed_port : C units.Port
+directed_port = three (λ t w p. record { direction = Some (chosen direction.Output directions t.code); is_net = is_some w; type = p.0; name = p.1 }) (word directions) (optional (any_of net_words)) typed_name
+
+-- id
+unfoldable pub plain_port : C units.Port
+plain_port = Map (λ n. record { direction = None; is_net = false; type = written.Nothing; name = n }) name
+
+-- ports = "(" [list(port)] ")", where the first port has a direction
+unfoldable pub ports : C (List units.Port)
+ports = in_parentheses (otherwise [] (both (λ p ps. p ∷ ps) directed_port (Rep (k.Comma ▸ Alt directed_port plain_port))))
+
+-- ---- types and subroutines
+
+-- typedef = "typedef" (type id | "class" id) ";"
+unfoldable pub typedef : {R : Type 0} → (written.Written → Name → R) → (Name → R) → C R
+typedef new announce = k.Typedef ▸ Alt (Map announce (k.Class ▸ name)) (both new type name) ◂ k.Semicolon
+
+-- "input" | "output" | "inout"
+abbrev pub argument_directions : Words Direction
+argument_directions = (k.Input, direction.Input) ∷ (k.Output, direction.Output) ∷ (k.Inout, direction.Inout) ∷ []
+
+-- [dir] [itype] id ["=" expr]
+unfoldable pub argument : C units.Argument
+argument = three (λ d p e. record { direction = d; type = p.0; name = p.1; default = e }) (optional (Map (λ t. chosen direction.Inout argument_directions t.code) (word argument_directions))) typed_name (optional (k.Equals ▸ expr))
+
+-- args = "(" [list([dir] [itype] id ["=" expr])] ")"
+unfoldable pub arguments : C (List units.Argument)
+arguments = in_parentheses (list_or_none argument)
+
+-- [args]
+abbrev pub maybe_arguments : C (List units.Argument)
+maybe_arguments = otherwise [] arguments
+
+-- the name of a constructor
+abbrev pub new_name : Tok → Name
+new_name t = record { at = t.at; text = codes "new" }
+
+-- what a function is called and gives: whether it is void, its type, its name
+abbrev pub Called : Type 0
+Called = Bool × written.Implied × Name
+
+-- "new" | ["void" | itype] id
+unfoldable pub called : C Called
+called = Alt (Map (λ t. (false, written.Nothing, new_name t)) (tok k.New)) (Alt (Map (λ n. (true, written.Nothing, n)) (k.Void ▸ name)) (Map (λ p. (false, p.0, p.1)) typed_name))
+
+-- head = "function" [life] ("new" | ["void" | itype] id) [args] | "task" [life] id [args]
+unfoldable pub head : C units.Head
+head = Alt
+    (four (λ t l c as_. record { at = t.at; is_task = false; life = l; is_void = c.0; type = c.1; name = c.2; arguments = as_ }) (tok k.Function) maybe_life called maybe_arguments)
+    (four (λ t l n as_. record { at = t.at; is_task = true; life = l; is_void = true; type = written.Nothing; name = n; arguments = as_ }) (tok k.Task) maybe_life name maybe_arguments)
+
+-- [":" (id | "new")]
+abbrev pub routine_label : C (Option Name)
+routine_label = optional (k.Colon ▸ Alt name (Map new_name (tok k.New)))
+
+-- routine = head ";" {decl} {stmt} ("endfunction" | "endtask") [":" (id | "new")]
+unfoldable pub routine : C units.Routine
+routine = three (λ h is l. record { head = h; decls = decls_of is; body = stmts_of is; label = l }) (head ◂ k.Semicolon) block_items (Map (λ p. p.1) (Seq (any_of (k.Endfunction ∷ k.Endtask ∷ [])) routine_label))
+
+-- ---- clocking blocks
+
+-- skew = "#" (number | time | id | "(" expr ")") | "#" "1step"
+unfoldable pub skew : C units.Skew
+skew = then_ (tok k.Hash) (Alt (Map (λ e t. units.Amount t.at e) amount) (Map (λ u t. units.OneStep t.at) (tok k.OneStep)))
+
+-- a direction with its skew
+abbrev pub side : Direction → Option units.Skew → units.Sided
+side d s = record { direction = d; skew = s }
+
+-- ("input" | "output") skew
+unfoldable pub default_skew : C units.Sided
+default_skew = both (λ t s. side (chosen direction.Output directions t.code) (Some s)) (word directions) skew
+
+-- an input alone, or an input and an output
+abbrev pub input_and : Option units.Skew → Option (Option units.Skew) → List units.Sided
+input_and i None = side direction.Input i ∷ []
+input_and i (Some o) = side direction.Input i ∷ side direction.Output o ∷ []
+
+-- "input" [skew] | "output" [skew] | "input" [skew] "output" [skew] | "inout"
+unfoldable pub sides : C (List units.Sided)
+sides =
+    Alt (both input_and (k.Input ▸ optional skew) (optional (k.Output ▸ optional skew)))
+    (Alt (Map (λ o. side direction.Output o ∷ []) (k.Output ▸ optional skew))
+    (Map (λ t. side direction.Inout None ∷ []) (tok k.Inout)))
+
+-- citems
+unfoldable pub clocking_item : C units.ClockingItem
+clocking_item = Alt (Map units.Default (k.Default ▸ Rep default_skew ◂ k.Semicolon)) (both units.Signals sides (list name ◂ k.Semicolon))
+
+-- "@" "(" ["posedge" | "negedge"] id ")" ";" {citems} "endclocking" [":" id]
+unfoldable pub clocking_rest : C (Name → Option Place → units.Item)
+clocking_rest = four (λ w e cs l n d. units.Clocking d n w e cs l) (k.At ▸ k.LeftParenthesis ▸ edge) (name ◂ k.RightParenthesis ◂ k.Semicolon) (Rep clocking_item) (k.Endclocking ▸ label)
+
+-- clocking = ["default"] "clocking" id .. | "default" "clocking" id ";"
+unfoldable pub clocking : C units.Item
+clocking = Alt
+    (both (λ n f. f n None) (k.Clocking ▸ name) clocking_rest)
+    (three (λ t n (f : Name → Place → units.Item). f n t.at) (tok k.Default ◂ k.Clocking) name (Alt (Map (λ u n at. units.DefaultClocking at n) (tok k.Semicolon)) (Map (λ f n at. f n (Some at)) clocking_rest)))
+
+-- ---- classes
+
+-- "local" | "protected" | "static" | "virtual"
+abbrev pub qualifier_words : List Kind
+qualifier_words = k.Local ∷ k.Protected ∷ k.Static ∷ k.Virtual ∷ []
+
+-- whether a word is among tokens
+abbrev pub has_word : Kind → List Tok → Bool
+has_word a ts = list_any (λ t. t.code == code a) ts
+
+-- the qualifiers that words stand for
+abbrev pub qualifiers_of : List Tok → Qualifiers
+qualifiers_of ts = record { is_local = has_word k.Local ts; is_protected = has_word k.Protected ts; is_static = has_word k.Static ts; is_virtual = has_word k.Virtual ts }
+
+-- type list(..) ";", after words
+abbrev pub class_typed : Life → C stmts.Decl
+class_typed l = both (decl_of l) type (declarators ◂ k.Semicolon)
+
+-- a declaration in a class, in which "static" is no life
+unfoldable pub class_decl : C stmts.Decl
+class_decl =
+    Alt (three (λ v t ds. decl_of life_word.Automatic t ds) (k.Automatic ▸ optional (tok k.Var)) type (declarators ◂ k.Semicolon))
+    (Alt (k.Var ▸ class_typed life_word.Unwritten) (class_typed life_word.Unwritten))
+
+-- decl | routine, after the words before it
+unfoldable pub member : C (List Tok → units.ClassItem)
+member = Alt (Map (λ d ts. units.Property (qualifiers_of ts) d) class_decl) (Map (λ r ts. units.Method (qualifiers_of ts) r) routine)
+
+-- citem = {"local" | "protected" | "static" | "virtual"} (decl | routine) | "pure" "virtual" head ";" | typedef | ";"
+unfoldable pub class_item : C units.ClassItem
+class_item =
+    Alt (both (λ t h. units.Pure t.at h) (tok k.Pure ◂ k.Virtual) (head ◂ k.Semicolon))
+    (Alt (typedef units.Class_typedef units.Class_announce)
+    (Alt (Map (λ t. units.Nothing_here) (tok k.Semicolon))
+    (Alt (three (λ t ts f. f (t ∷ ts)) (any_of qualifier_words) (Rep (any_of qualifier_words)) member)
+    (Map (λ f. f []) member))))
+
+-- a class of its parts
+abbrev pub class_of : Bool → Tok → Name → Option Name → List units.ClassItem × Option Name → units.Class
+class_of is_virtual t n base p = record { at = t.at; is_virtual = is_virtual; name = n; base = base; items = p.0; label = p.1 }
+
+-- id ["extends" id] ";" {citem} "endclass" [":" id]
+unfoldable pub class_rest : C (Bool → Tok → units.Class)
+class_rest = three (λ n b p v t. class_of v t n b p) name (optional (k.Extends ▸ name)) (k.Semicolon ▸ Seq (Rep class_item) (k.Endclass ▸ label))
+
+-- class = ["virtual"] "class" id ..
+unfoldable pub class : C units.Class
+class = Alt (both (λ t f. f true t) (tok k.Virtual ◂ k.Class) class_rest) (both (λ t f. f false t) (tok k.Class) class_rest)
+
+-- ---- items
+
+-- what stands in modules, programs and outside both
+abbrev pub named_items : C units.Item
+named_items = Alt (typedef units.Typedef units.Announce) (Alt (Map units.Class_item class) (Alt (Map units.Parameter (param ◂ k.Semicolon)) (Map units.Routine_item routine)))
+
+-- common, but for declarations that a name begins
+unfoldable pub common : C units.Item
+common =
+    Alt (Map units.Declare word_decl)
+    (Alt named_items
+    (Alt clocking
+    (Alt (both (λ t s. units.Process t.at procedure.Initial s) (tok k.Initial) statement)
+    (Map (λ t. units.Nothing) (tok k.Semicolon)))))
+
+-- a declaration that a name begins
+unfoldable pub named_decl : C units.Item
+named_decl = Map units.Declare (then_ name named_decl_rest)
+
+-- pitem = common
+unfoldable pub program_item : C units.Item
+program_item = Alt common named_decl
+
+-- conn = expr | "." id ["(" [expr] ")"] | ".*"
+abbrev pub given_of : Name → Option (Option tree.Expr) → Tok → units.Connection
+given_of n None t = units.Same t.at n
+given_of n (Some e) t = units.Given t.at n e
+
+-- conn
+unfoldable pub connection : C units.Connection
+connection =
+    Alt (then_ (tok k.Dot) (both given_of name (optional (in_parentheses (optional expr)))))
+    (Alt (Map (λ t. units.All t.at) (tok k.DotStar)) (Map units.Value expr))
+
+-- "(" [list(conn)] ")"
+unfoldable pub connections : C (List units.Connection)
+connections = in_parentheses (list_or_none connection)
+
+-- an instance of its parts
+abbrev pub instance_of : Name → List units.Connection → units.Instance
+instance_of n cs = record { name = n; connections = cs }
+
+-- id "(" [list(conn)] ")"
+unfoldable pub instance : C units.Instance
+instance = both instance_of name connections
+
+-- after two names: an instance, or a declaration
+unfoldable pub second_named : C (Name → Name → units.Item)
+second_named = Alt
+    (both (λ cs is u n. units.Instances u [] (instance_of n cs ∷ is)) connections (Rep (k.Comma ▸ instance) ◂ k.Semicolon))
+    (Map (λ f u n. units.Declare (decl_of life_word.Unwritten (written.Named u) (f n))) (Rattle.sv_tree.specs.TypeGrammar.more_declarators ◂ k.Semicolon))
+
+-- inst = id ["#" "(" list(conn) ")"] list(id "(" [list(conn)] ")") ";", or a declaration that a name begins
+unfoldable pub named_item : C units.Item
+named_item = then_ name (Alt
+    (both (λ cs is u. units.Instances u cs is) (k.Hash ▸ in_parentheses (list connection)) (list instance ◂ k.Semicolon))
+    (both (λ n f u. f u n) name second_named))
+
+-- a net and what drives it
+abbrev pub net_item_of : Name → Option tree.Expr → units.NetItem
+net_item_of n e = record { name = n; value = e }
+
+-- id ["=" expr]
+unfoldable pub net_item : C units.NetItem
+net_item = both net_item_of name (optional (k.Equals ▸ expr))
+
+-- net = ("wire" | "tri") ["logic"] [sign] [range] list(id ["=" expr]) ";"
+unfoldable pub net : C units.Item
+net = four (λ t s r ns. units.Net t.at s r ns) (Map (λ p. p.0) (Seq (any_of net_words) (optional (tok k.Logic)))) sign (optional range) (list net_item ◂ k.Semicolon)
+
+-- a continuous assignment of its parts
+abbrev pub assign_item_of : tree.Lval → tree.Expr → units.AssignItem
+assign_item_of l e = record { target = l; value = e }
+
+-- lval "=" expr
+unfoldable pub assign_item : C units.AssignItem
+assign_item = both assign_item_of lval (k.Equals ▸ expr)
+
+-- "always" | "always_comb" | "always_ff"
+abbrev pub procedure_words : Words Procedure
+procedure_words = (k.Always, procedure.Always) ∷ (k.AlwaysComb, procedure.AlwaysComb) ∷ (k.AlwaysFf, procedure.AlwaysFf) ∷ []
+
+-- mitem = common | net | "assign" list(lval "=" expr) ";" | inst | ("always" | "always_comb" | "always_ff") stmt
+unfoldable pub module_item : C units.Item
+module_item =
+    Alt common
+    (Alt net
+    (Alt (Map units.Assign (k.Assign ▸ list assign_item ◂ k.Semicolon))
+    (Alt (both (λ t s. units.Process t.at (chosen procedure.AlwaysFf procedure_words t.code) s) (word procedure_words) statement)
+    named_item)))
+
+-- ---- units
+
+-- a module or a program of its parts
+abbrev pub program_of : Bool → Tok → Life × Name → Option (List units.Param) × List units.Port → List units.Item → Option Name → units.Program
+program_of is_program t ln pp is l = record { at = t.at; is_program = is_program; life = ln.0; name = ln.1; params = pp.0; ports = pp.1; items = is; label = l }
+
+-- [pports] [ports] ";"
+abbrev pub unit_head : C (Option (List units.Param) × List units.Port)
+unit_head = Seq (optional unit_params) (otherwise [] ports) ◂ k.Semicolon
+
+-- module = "module" [life] id [pports] [ports] ";" {mitem} "endmodule" [":" id]
+unfoldable pub module_unit : C units.Program
+module_unit = both (λ t (f : Tok → units.Program). f t) (tok k.Module) (four (λ ln pp is l t. program_of false t ln pp is l) (Seq maybe_life name) unit_head (Rep module_item) (k.Endmodule ▸ label))
+
+-- program = "program" [life] id [pports] [ports] ";" {pitem} "endprogram" [":" id]
+unfoldable pub program_unit : C units.Program
+program_unit = both (λ t (f : Tok → units.Program). f t) (tok k.Program) (four (λ ln pp is l t. program_of true t ln pp is l) (Seq maybe_life name) unit_head (Rep program_item) (k.Endprogram ▸ label))
+
+-- unit = module | program | class | typedef | param ";" | routine | ";"
+unfoldable pub unit : C units.Description
+unit =
+    Alt (Map units.Instantiable module_unit)
+    (Alt (Map units.Instantiable program_unit)
+    (Alt (Map units.Outside named_items)
+    (Map (λ t. units.Outside units.Nothing) (tok k.Semicolon))))
+
+-- file = { unit }, and the end
+unfoldable pub file : C (List units.Description)
+file = Rep unit ◂ k.EndOfText

@@ -1,0 +1,96 @@
+// Expressions, and the targets of assignments (IEEE 1800-2017, A.8).
+use crate::{AtomWord, BinaryWord, Name, PartWord, UnaryWord, VectorWord};
+use sv_value::{Place, Text};
+
+/// What a name with suffixes begins with: `"this" | "super" "." id | id ["::" id]` (A.8.4).
+#[derive(Drop)]
+pub enum Root {
+    /// `"this"`, at the word
+    This(Place),
+    /// `"super" "." id`, at `super`
+    Super(Place, Name),
+    /// `id`
+    Plain(Name),
+    /// `id "::" id`
+    Scoped(Name, Name),
+}
+
+/// What a cast converts to, before its `'`: `basetype | id | number` (A.8.4).
+#[derive(Drop)]
+pub enum CastType {
+    /// `"bit" | "logic" | "reg"`, at the word
+    Vector(Place, VectorWord),
+    /// `"byte" | "shortint" | "int" | "longint" | "integer" | "time"`, at the word
+    Atom(Place, AtomWord),
+    /// `"string"`, at the word
+    Text(Place),
+    /// `"event"`, at the word
+    Event(Place),
+    /// `"semaphore"`, at the word
+    Semaphore(Place),
+    /// `"mailbox"`, at the word
+    Mailbox(Place),
+    /// `id`, of a type or of a constant that is a width
+    Named(Name),
+    /// `number`: a width as written, at the number
+    Width(Place, Text),
+}
+
+/// An expression (A.8.3, A.8.4). Binary operators group to the left, `?:` to the right.
+#[derive(Drop)]
+#[cycle(expr)]
+pub enum Expr {
+    /// `number`, at its first byte, as written
+    Number(Place, Text),
+    /// `time`: digits and a unit, at its first byte, as written
+    Time(Place, Text),
+    /// `text`: a string literal, at its first quote, as written with both quotes
+    Text(Place, Text),
+    /// `"null"`, at the word
+    Null(Place),
+    /// `"$"`, at the sign
+    Dollar(Place),
+    /// `"(" expr ")"`, at `(`
+    Group(Place, Box<Expr>),
+    /// `post`: a root and `{"." id | actuals | sel}`
+    Post(Root, Vec<Suffix>),
+    /// `sysname ["(" [list(expr)] ")"]`; the flag tells whether brackets are written
+    System(Name, bool, Vec<Expr>),
+    /// `"super" "." "new" [actuals]`, at `super` and at `new`; the flag tells whether brackets are written
+    SuperNew(Place, Place, bool, Vec<Expr>),
+    /// `"{" list(expr) "}"`, at `{`
+    Join(Place, Vec<Expr>),
+    /// `"{" expr "{" list(expr) "}" "}"`, at the first and the second `{`
+    Repeat(Place, Box<Expr>, Place, Vec<Expr>),
+    /// `(basetype | id | number) "'" "(" expr ")"`
+    Cast(CastType, Box<Expr>),
+    /// `uop expr`, at the operator
+    Unary(Place, UnaryWord, Box<Expr>),
+    /// `expr bop expr`, at the operator
+    Binary(BinaryWord, Place, Box<Expr>, Box<Expr>),
+    /// `expr "?" expr ":" expr`
+    Choose(Box<Expr>, Box<Expr>, Box<Expr>),
+}
+
+/// What follows the root of a name: `"." id | actuals | sel` (A.8.4).
+#[derive(Drop)]
+#[cycle(expr)]
+pub enum Suffix {
+    /// `"." id`
+    Member(Name),
+    /// `actuals = "(" [list(expr)] ")"`, at `(`
+    Actuals(Place, Vec<Expr>),
+    /// `sel = "[" expr "]"`, at `[`
+    Select(Place, Box<Expr>),
+    /// `sel = "[" expr (":" | "+:" | "-:") expr "]"`, at `[`
+    Part(Place, PartWord, Box<Expr>, Box<Expr>),
+}
+
+/// A target: `lval = post | "{" list(lval) "}"` (A.8.5).
+#[derive(Drop)]
+pub enum Lval {
+    /// `post`: a root and `{"." id | actuals | sel}`
+    Post(Root, Vec<Suffix>),
+    /// `"{" list(lval) "}"`, at `{`
+    Join(Place, Vec<Lval>),
+}

@@ -1,0 +1,31 @@
+//! Tokens and trees of sources: one variant for each alternative of the grammar.
+//!
+//! The trees say what is written and where, and nothing of what it means. Each type shows its production above it, in the notation of
+//! `docs/LANGUAGE.md`: `[ ]` is optional, `{ }` any number, `list(x)` is `x {"," x}`, and `id` a name.
+//!
+//! `specs/` says what a text means: `Tokens` and `Lexing` which tokens it has, and `Grammar` which trees tokens spell.
+#![tactic(auto)]
+
+mod expr;
+mod kind;
+mod statement;
+mod token;
+mod types;
+mod unit;
+mod word;
+
+pub use expr::{CastType, Expr, Lval, Root, Suffix};
+pub use kind::{Kind, SIGNS, UNUSED, WORDS};
+pub use statement::{
+    Actuals, Arm, Body, Decl, Declarator, Delay, Dim, Event, EventPart, First, Init, Last, Stmt,
+};
+pub use token::{MOST_TOKENS, Piece, Refused, Timescale, Token};
+pub use types::{EnumItem, Range, Type};
+pub use unit::{
+    Argument, AssignItem, Class, ClassItem, ClockingItem, Connection, Head, ImpliedType, Instance,
+    Item, NetItem, Param, ParamItem, Port, Program, Qualifiers, Routine, Sided, Skew, Unit,
+};
+pub use word::{
+    AtomWord, BinaryWord, CaseWord, Direction, EdgeWord, JoinWord, Life, Name, PartWord, Procedure,
+    Sign, StepWord, UnaryWord, VectorWord,
+};

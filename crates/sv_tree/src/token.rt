@@ -1,0 +1,53 @@
+// Tokens, and what else stands in a text (IEEE 1800-2017, 5 and 22).
+use crate::kind::Kind;
+use sv_value::{Place, Text};
+
+/// A token (5.2), at its first byte. `text` holds its bytes where the kind does not tell them: of names, system names, numbers, time
+/// literals and string literals (with their quotes). It is empty for all other kinds.
+#[derive(Drop)]
+pub struct Token {
+    pub kind: Kind,
+    pub at: Place,
+    pub text: Text,
+}
+
+/// `` `timescale A/B `` (22.7), at its back quote. Both numbers are powers of ten of a femtosecond: 15 is a second, 6 a nanosecond.
+#[derive(Clone, Copy, PartialEq, Eq, Debug)]
+pub struct Timescale {
+    pub unit: u32,
+    pub precision: u32,
+    pub at: Place,
+}
+
+/// Why a text has no tokens.
+#[derive(Clone, Copy, PartialEq, Eq, Debug)]
+pub enum Refused {
+    /// No token, separator or directive begins here; of a string literal with an unknown escape, at its first quote.
+    BadByte,
+    /// A string literal that does not end on its line, at its first quote.
+    OpenText,
+    /// A `/*` without its `*/`, at its first byte.
+    OpenComment,
+    /// A number that means nothing: bad digits, too wide, or of width 0.
+    Literal,
+    /// The token after the greatest number of tokens.
+    TooManyTokens,
+    /// A directive that is not permitted, or has another form, at its back quote.
+    Directive,
+}
+
+/// What stands at the front of a text, with its length in bytes.
+#[derive(Clone, Copy, PartialEq, Eq, Debug)]
+pub enum Piece {
+    /// A separator, or a directive without effect.
+    Passed(usize),
+    /// A time scale: its unit and its precision, as in `Timescale`, then its length.
+    Scale(u32, u32, usize),
+    /// A token.
+    Token(Kind, usize),
+    /// Nothing can be read.
+    Nothing(Refused),
+}
+
+/// The greatest number of tokens of a file, without the one for its end: 2^21.
+pub const MOST_TOKENS: usize = 2097152;
