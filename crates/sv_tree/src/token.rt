@@ -1,6 +1,7 @@
 // Tokens, and what else stands in a text (IEEE 1800-2017, 5 and 22).
 use crate::kind::Kind;
 use sv_value::{Place, Text};
+use thiserror::Error;
 
 /// A token (5.2), at its first byte. `text` holds its bytes where the kind does not tell them: of names, system names, numbers, time
 /// literals and string literals (with their quotes). It is empty for all other kinds.
@@ -19,20 +20,26 @@ pub struct Timescale {
     pub at: Place,
 }
 
-/// Why a text has no tokens.
-#[derive(Clone, Copy, PartialEq, Eq, Debug)]
+/// Why a text has no tokens. Each shows as it stands in the closing line.
+#[derive(Clone, Copy, PartialEq, Eq, Debug, Error)]
 pub enum Refused {
     /// No token, separator or directive begins here; of a string literal with an unknown escape, at its first quote.
+    #[error("bad byte")]
     BadByte,
     /// A string literal that does not end on its line, at its first quote.
+    #[error("open text")]
     OpenText,
     /// A `/*` without its `*/`, at its first byte.
+    #[error("open comment")]
     OpenComment,
     /// A number that means nothing: bad digits, too wide, or of width 0.
+    #[error("bad literal")]
     Literal,
     /// The token after the greatest number of tokens.
+    #[error("too many tokens")]
     TooManyTokens,
     /// A directive that is not permitted, or has another form, at its back quote.
+    #[error("bad directive")]
     Directive,
 }
 

@@ -1,0 +1,97 @@
+// The words of tables (IEEE 1800-2017, 5.5 and 5.6.2).
+
+ghost use Rattle.std.specs.Prelude.{◌≡◌, ◌≤◌, length, map};
+ghost use Rattle.std.specs.List.{list_any};
+ghost use Rattle.sv_tree.specs.Longest.{longest};
+ghost use Rattle.sv_tree.specs.Tokens.{is_word, is_spelled, spelled, kind_of_name, plain_word, words, signs, unused};
+
+use sv_tree::{Kind, SIGNS, UNUSED, WORDS};
+
+/// The length of a word, where it stands at the front.
+#[tactic(auto, using(crate::proofs::Fronts::longest_word))]
+fn word_length(word: &[u8], s: &[u8]) -> usize
+    ensures value { result ≡ longest (is_word word.now) s.now }
+    ensures within { result ≤ length s.now }
+{
+    if s.starts_with(word) { word.len() } else { 0 }
+}
+
+/// The longest word of a table at the front.
+pub fn spelled_length(table: &[(&str, Kind)], s: &[u8]) -> usize
+    ensures value { result ≡ longest (is_spelled (map (λ x. (x.0.now, x.1)) table.now)) s.now }
+    ensures within { result ≤ length s.now }
+{
+    let mut most = 0;
+    for (word, _) in table {
+        most = word_length(word.as_bytes(), s).max(most);
+    }
+    most
+}
+
+/// The kind of a word.
+pub fn kind_in(table: &[(&str, Kind)], word: &[u8]) -> Option<Kind>
+    ensures { result ≡ spelled (map (λ x. (x.0.now, x.1)) table.now) word.now }
+{
+    for (spelling, kind) in table {
+        if spelling.as_bytes() == word {
+            return Some(*kind);
+        }
+    }
+    None
+}
+
+/// Whether a word is in a list.
+fn is_in(words: &[&str], word: &[u8]) -> bool
+    ensures { result ≡ list_any (λ x. is_word x word.now) (map (λ x. x.now) words.now) }
+{
+    for x in words {
+        if x.as_bytes() == word {
+            return true;
+        }
+    }
+    false
+}
+
+/// The reserved words that the grammar uses.
+fn words() -> &'static [(&'static str, Kind)]
+    ensures { map (λ x. (x.0.now, x.1)) result.now ≡ words }
+{
+    &WORDS
+}
+
+/// The operators and the punctuation.
+pub fn signs() -> &'static [(&'static str, Kind)]
+    ensures { map (λ x. (x.0.now, x.1)) result.now ≡ signs }
+{
+    &SIGNS
+}
+
+/// The reserved words that no rule accepts.
+fn unused() -> &'static [&'static str]
+    ensures { map (λ x. x.now) result.now ≡ unused }
+{
+    &UNUSED
+}
+
+/// The kind of a word that the grammar does not use: reserved, or a name.
+#[tactic(auto, unfolding(sv_tree::specs::Tokens::plain_word))]
+fn plain_word(word: &[u8]) -> Kind
+    ensures { result ≡ plain_word word.now }
+{
+    if is_in(unused(), word) {
+        Kind::Reserved
+    } else {
+        Kind::Name
+    }
+}
+
+/// A reserved word, or a name.
+#[tactic(auto, unfolding(sv_tree::specs::Tokens::kind_of_name))]
+pub fn kind_of_name(word: &[u8]) -> Kind
+    ensures { result ≡ kind_of_name word.now }
+{
+    match kind_in(words(), word) {
+        Some(kind) => kind,
+        None => plain_word(word),
+    }
+}
