@@ -1,0 +1,59 @@
+// The first values of variables.
+ghost use Rattle.std.specs.Prelude.{◌≡◌, ◌<◌, ◌≤◌, ◌^◌, IfOk, replicate};
+ghost use Rattle.sv_value.specs.declared.word.TheConstants.{WIDEST};
+ghost use Rattle.sv_value.specs.Vector.{vector};
+ghost use Rattle.sv_flat.specs.State.{unknown_symbol};
+ghost use Rattle.sv_flat.specs.Opening.{elements_of};
+ghost use Rattle.sv_store.specs.First.{first_value, HasWidth};
+
+use std::alloc::Global;
+use sv_flat::{Bounds, DataType};
+use sv_value::{Bits, Integral, Key, NoMemory, Plain, Text, Val, Word};
+
+/// How many elements a variable has: those of its fixed array, or one.
+pub fn element_count(array: Option<Bounds>) -> u32
+    requires { elements_of array < 2 ^ 32 }
+    ensures { result ≡ elements_of array }
+{
+    match array {
+        None => 1,
+        Some(bounds) => (bounds.left.abs_diff(bounds.right) + 1) as u32,
+    }
+}
+
+/// x in each bit of a four-state type, 0 in each of a two-state one.
+fn first_bits(ty: Integral) -> Bits
+    requires at_least_one { 1 ≤ ty.width }
+    requires fits { ty.width ≤ WIDEST }
+    ensures { result ≡ vector ty.signed (replicate ty.width (unknown_symbol ty.four_state)) }
+{
+    if ty.four_state {
+        return Bits::truncated(ty.width, ty.signed, 0, Word::MAX);
+    }
+    Bits::truncated(ty.width, ty.signed, 0, 0)
+}
+
+/// The first value of a variable (IEEE 1800-2017, 6.8).
+fn first(alloc: Global, ty: DataType) -> Val
+    requires { HasWidth ty }
+    ensures { result ≡ first_value ty }
+{
+    match ty {
+        DataType::Plain(Plain::Integral(integral)) => Val::Bits(first_bits(integral)),
+        DataType::Plain(Plain::Text) => Val::Text(Text::new(alloc)),
+        DataType::Plain(Plain::Event) => Val::Event(Key(0)),
+        _ => Val::Object(None),
+    }
+}
+
+/// So many elements with the first value of a type.
+pub fn first_elements(alloc: Global, ty: DataType, count: u32) -> Result<Vec<Val>, NoMemory>
+    requires { HasWidth ty }
+    ensures { IfOk result (λ vs. vs.items ≡ replicate count (first_value ty)) }
+{
+    let mut elements = Vec::new(alloc);
+    for i in 0..count {
+        elements.push(first(alloc, ty))?;
+    }
+    Ok(elements)
+}
