@@ -30,9 +30,9 @@ one_added o (type.Dynamic t) w h = absurd h
 one_added o (type.Assoc k t) w h = absurd h
 
 pub objects_added-first_store : (os : List Object) (w : World) → AllByRecursion (λ (o : Object). NeedsNoHeap o.ty) os → objects_added os w ≡ record w { store = w.store ++ first_store os }
-objects_added-first_store [] w h = ap (λ (s : List Stored). record w { store = s }) (sym append-nil)
+objects_added-first_store [] w h = ap (λ (s : List Stored). record w { store = s }) (sym (append-nil w.store))
 objects_added-first_store (o ∷ os) w h =
     let first : List Stored = stored o (first_value o.ty) ∷ [] in
     ap (objects_added os) (one_added o o.ty w h.0)
     ∙ objects_added-first_store os (record w { store = w.store ++ first }) h.1
-    ∙ ap (λ (s : List Stored). record w { store = s }) append_assoc
+    ∙ ap (λ (s : List Stored). record w { store = s }) (append_assoc w.store first (first_store os))

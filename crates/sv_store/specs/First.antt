@@ -1,9 +1,7 @@
 -- What the objects of a design hold first (IEEE 1800-2017, 6.6.1 and 6.8).
-use Rattle.std.specs.Prelude.{◌≡◌, ◌<◌, ◌≤◌, ◌^◌, ℕ, List, map}
-use Rattle.std.specs.List.{AllByRecursion}
+use Rattle.std.specs.Prelude.{◌<◌, ◌≤◌, ◌^◌, ℕ, List, map}
 use Rattle.sv_value.specs.declared.word.TheConstants.{WIDEST}
 use Rattle.sv_value.specs.declared.val.Val.{Val}
-use Rattle.sv_value.specs.declared.val.Plain.{Plain}
 use Rattle.sv_value.specs.declared.val.Plain.TheVariants as plain
 use Rattle.sv_flat.specs.declared.object.DataType.{DataType}
 use Rattle.sv_flat.specs.declared.object.DataType.TheVariants as type

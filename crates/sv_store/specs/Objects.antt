@@ -1,5 +1,5 @@
 -- What the calls of a store ask of an object (IEEE 1800-2017, 6.5 and 6.8).
-use Rattle.std.specs.Prelude.{◌≡◌, ◌<◌, ℕ, List, [], length, slice_index_or}
+use Rattle.std.specs.Prelude.{◌≡◌, ◌<◌, ℕ, [], length, slice_index_or}
 use Rattle.sv_value.specs.declared.number.ObjId.{ObjId}
 use Rattle.sv_value.specs.declared.val.Val.{Val}
 use Rattle.sv_value.specs.declared.val.Val.TheVariants as val

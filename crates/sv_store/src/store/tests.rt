@@ -1,5 +1,5 @@
 // A variable and a net, and an empty design.
-ghost use Rattle.std.specs.Prelude.{◌≡◌, ◌∷◌, [], false, replicate, IfOk};
+ghost use Rattle.std.specs.Prelude.{◌≡◌, ◌∷◌, [], true, false, None, replicate, IfOk};
 ghost use Rattle.sv_value.specs.declared.val.Val.TheVariants.{Bits as bits};
 ghost use Rattle.sv_value.specs.declared.word.Sym.TheVariants.{X, Z};
 ghost use Rattle.sv_value.specs.Vector.{vector};
