@@ -114,9 +114,13 @@ named_post = both (λ n p. (named_root n p.0, p.1)) name post_rest
 unfoldable pub this_post : C (Root × tree.Suffixes)
 this_post = both (λ t s. (root.This t.at, s)) (tok k.This) suffixes
 
+-- "super" "." id {..}
+unfoldable pub super_post : C (Root × tree.Suffixes)
+super_post = three (λ t n s. (root.Super t.at n, s)) (tok k.Super ◂ k.Dot) name suffixes
+
 -- post = ("this" | "super" "." id | id ["::" id]) {"." id | actuals | sel}
 unfoldable pub post : C (Root × tree.Suffixes)
-post = Alt named_post (Alt this_post (three (λ t n s. (root.Super t.at n, s)) (tok k.Super ◂ k.Dot) name suffixes))
+post = Alt named_post (Alt this_post super_post)
 
 -- lval = post | "{" list(lval) "}"
 unfoldable pub targets : C tree.Lval

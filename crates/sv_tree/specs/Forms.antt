@@ -112,9 +112,17 @@ optional a = Alt (Map Some a) (Done None)
 abbrev pub otherwise : {A : Type 0} → A → C A → C A
 otherwise x a = Alt a (Done x)
 
+-- "," a
+abbrev pub comma : {A : Type 0} → C A → C A
+comma a = k.Comma ▸ a
+
+-- {"," a}
+abbrev pub commas : {A : Type 0} → C A → C (List A)
+commas a = Rep (comma a)
+
 -- list(a)
 abbrev pub list : {A : Type 0} → C A → C (List A)
-list a = both (λ x xs. x ∷ xs) a (Rep (k.Comma ▸ a))
+list a = both (λ x xs. x ∷ xs) a (commas a)
 
 -- [list(a)]
 abbrev pub list_or_none : {A : Type 0} → C A → C (List A)

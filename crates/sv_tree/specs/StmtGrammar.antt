@@ -22,7 +22,7 @@ use Rattle.sv_tree.specs.Expr as tree
 use Rattle.sv_tree.specs.Written as written
 use Rattle.sv_tree.specs.Stmt as stmts
 use Rattle.sv_tree.specs.Forms.{Named, Unnamed, Placed, C, Words, tok, any_of, word, chosen, ◌▸◌, ◌◂◌, both, three, four, then_, optional, otherwise, list, in_parentheses, in_brackets, name_of, name, label, statement, stacked, exprs}
-use Rattle.sv_tree.specs.ExprGrammar.{expr, lval, targets, suffixes, scoped, named_root, this_post, system_call, super_new, call, maybe_arguments}
+use Rattle.sv_tree.specs.ExprGrammar.{expr, lval, targets, suffixes, scoped, named_root, this_post, super_post, system_call, super_new, call, maybe_arguments}
 use Rattle.sv_tree.specs.TypeGrammar.{word_type, init, word_decl, named_decl_rest}
 
 -- a form, at a place
@@ -64,16 +64,24 @@ edge = otherwise edge_word.Unwritten (Map (λ t. chosen edge_word.Negedge edge_w
 unfoldable pub event_part : C stmts.EventPart
 event_part = three (λ w e c. record { edge = w; expr = e; condition = c }) edge expr (optional (k.Iff ▸ expr))
 
+-- ("or" | ",") ev
+unfoldable pub next_event_part : C stmts.EventPart
+next_event_part = Map (λ p. p.1) (Seq (any_of (k.Or ∷ k.Comma ∷ [])) event_part)
+
 -- ev {("or" | ",") ev}
 unfoldable pub event_parts : C (List stmts.EventPart)
-event_parts = both (λ p ps. p ∷ ps) event_part (Rep (Map (λ p. p.1) (Seq (any_of (k.Or ∷ k.Comma ∷ [])) event_part)))
+event_parts = both (λ p ps. p ∷ ps) event_part (Rep next_event_part)
+
+-- "*" ")" | ev {("or" | ",") ev} ")"
+unfoldable pub event_list : C stmts.Event
+event_list = Alt (Map (λ t. stmts.Star) (tok k.Star ◂ k.RightParenthesis)) (Map stmts.Parts (event_parts ◂ k.RightParenthesis))
 
 -- event = id | "*" | "(" "*" ")" | "(" ev {("or" | ",") ev} ")"
 unfoldable pub event : C stmts.Event
 event =
     Alt (Map stmts.On name)
     (Alt (Map (λ t. stmts.Star) (tok k.Star))
-    (k.LeftParenthesis ▸ Alt (Map (λ t. stmts.Star) (tok k.Star ◂ k.RightParenthesis)) (Map stmts.Parts (event_parts ◂ k.RightParenthesis))))
+    (k.LeftParenthesis ▸ event_list))
 
 -- aop
 abbrev pub assign_words : Words BinaryWord
@@ -93,13 +101,25 @@ step_word_of t = chosen step_word.Decrement step_words t.code
 
 -- ---- assignments and calls
 
+-- "=" [delay] init ";"
+unfoldable pub assign_now : C (tree.Lval → stmts.Body)
+assign_now = both (λ d i l. stmts.Assign l d i) (k.Equals ▸ optional delay) (init ◂ k.Semicolon)
+
+-- "<=" [delay] expr ";"
+unfoldable pub assign_later : C (tree.Lval → stmts.Body)
+assign_later = both (λ d e l. stmts.Later l d e) (k.LessEquals ▸ optional delay) (expr ◂ k.Semicolon)
+
+-- aop expr ";"
+unfoldable pub assign_by : C (tree.Lval → stmts.Body)
+assign_by = both (λ t e l. stmts.Op l (assign_word t) e) (word assign_words) (expr ◂ k.Semicolon)
+
+-- ("++" | "--") ";"
+unfoldable pub step_after : C (tree.Lval → stmts.Body)
+step_after = Map (λ t l. stmts.Step l (step_word_of t)) (word step_words ◂ k.Semicolon)
+
 -- what follows the target of an assignment
 unfoldable pub assign_end : C (tree.Lval → stmts.Body)
-assign_end =
-    Alt (both (λ d i l. stmts.Assign l d i) (k.Equals ▸ optional delay) (init ◂ k.Semicolon))
-    (Alt (both (λ d e l. stmts.Later l d e) (k.LessEquals ▸ optional delay) (expr ◂ k.Semicolon))
-    (Alt (both (λ t e l. stmts.Op l (assign_word t) e) (word assign_words) (expr ◂ k.Semicolon))
-    (Map (λ t l. stmts.Step l (step_word_of t)) (word step_words ◂ k.Semicolon))))
+assign_end = Alt assign_now (Alt assign_later (Alt assign_by step_after))
 
 -- what follows a name with its suffixes: an assignment to it, or the end of a call
 unfoldable pub post_end : C (Root × tree.Suffixes → stmts.Body)
@@ -109,9 +129,13 @@ post_end = Alt (Map (λ f p. f (tree.Target p.0 p.1)) assign_end) (Map (λ t p. 
 unfoldable pub named_rest : C (Name → stmts.Body)
 named_rest = three (λ m s f n. f (named_root n m, s)) scoped suffixes post_end
 
+-- "new" [actuals] ";" | id {..} ..
+unfoldable pub super_rest : C (Tok → Placed)
+super_rest = Alt (both (λ w b t. placed t.at (stmts.Call (super_new w.at b t))) (tok k.New) (maybe_arguments ◂ k.Semicolon)) (three (λ n s f t. placed t.at (f (root.Super t.at n, s))) name suffixes post_end)
+
 -- "super" "." ("new" [actuals] ";" | id {..} ..)
 unfoldable pub super_statement : C Placed
-super_statement = then_ (tok k.Super ◂ k.Dot) (Alt (both (λ w b t. placed t.at (stmts.Call (super_new w.at b t))) (tok k.New) (maybe_arguments ◂ k.Semicolon)) (three (λ n s f t. placed t.at (f (root.Super t.at n, s))) name suffixes post_end))
+super_statement = then_ (tok k.Super ◂ k.Dot) super_rest
 
 -- ---- blocks
 
@@ -141,59 +165,83 @@ stmts_of (Made s ∷ is) = stmts.AndStmt s (stmts_of is)
 abbrev pub unlabelled : Placed → stmts.Stmt
 unlabelled p = stmts.At p.at None p.body
 
--- an item before the first statement; a name that a name follows is the type of a declaration
+-- what follows a name at the front of an item: a name that a name follows is the type of a declaration
+unfoldable pub early_rest : C (Tok → BlockItem)
+early_rest = Alt (Map (λ f t. Declared (f (name_of t))) named_decl_rest) (Map (λ f t. Made (f t)) (Inner Named))
+
+-- an item before the first statement
 unfoldable pub early : C BlockItem
-early =
-    Alt (then_ (tok k.Name) (Alt (Map (λ f t. Declared (f (name_of t))) named_decl_rest) (Map (λ f t. Made (f t)) (Inner Named))))
-    (Alt (Map Declared word_decl) (Map (λ p. Made (unlabelled p)) (Inner Unnamed)))
+early = Alt (then_ (tok k.Name) early_rest) (Alt (Map Declared word_decl) (Map (λ p. Made (unlabelled p)) (Inner Unnamed)))
 
 -- {decl} {stmt}
 unfoldable pub block_items : C (List BlockItem)
 block_items = Items is_statement early (Map Made statement)
 
 -- a block of items
-abbrev pub block_of : Option Name → List BlockItem → Option Name → stmts.Body
-block_of n is e = stmts.Block n (decls_of is) (stmts_of is) e
+abbrev pub block_of : Option Name → List BlockItem × Option Name → stmts.Body
+block_of n p = stmts.Block n (decls_of p.0) (stmts_of p.0) p.1
+
+-- {decl} {stmt} "end" [":" id]
+unfoldable pub block_rest : C (List BlockItem × Option Name)
+block_rest = Seq block_items (k.End ▸ label)
 
 -- "join" | "join_any" | "join_none"
 abbrev pub join_words : Words JoinWord
 join_words = (k.Join, join_word.All) ∷ (k.JoinAny, join_word.Any) ∷ (k.JoinNone, join_word.None) ∷ []
 
 -- a fork of items
-abbrev pub fork_of : Option Name → List BlockItem → Tok → Option Name → stmts.Body
-fork_of n is j e = stmts.Fork n (decls_of is) (stmts_of is) (chosen join_word.None join_words j.code) e
+abbrev pub fork_of : Option Name → List BlockItem × Tok × Option Name → stmts.Body
+fork_of n p = stmts.Fork n (decls_of p.0) (stmts_of p.0) (chosen join_word.None join_words p.1.code) p.2
+
+-- {decl} {stmt} ("join" | "join_any" | "join_none") [":" id]
+unfoldable pub fork_rest : C (List BlockItem × Tok × Option Name)
+fork_rest = three (λ is j e. (is, j, e)) block_items (word join_words) label
 
 -- "begin" [":" id] {decl} {stmt} "end" [":" id]
 unfoldable pub block : C Placed
-block = form k.Begin (three block_of label block_items (k.End ▸ label))
+block = form k.Begin (both block_of label block_rest)
 
 -- "fork" [":" id] {decl} {stmt} ("join" | "join_any" | "join_none") [":" id]
 unfoldable pub fork : C Placed
-fork = form k.Fork (four fork_of label block_items (word join_words) label)
+fork = form k.Fork (both fork_of label fork_rest)
 
 -- ---- choices and loops
 
 -- an else belongs to the nearest if
+unfoldable pub else_ : C (tree.Expr → stmts.Stmt → stmts.Body)
+else_ = Opt stmts.If (Map (λ r e s. stmts.IfElse e s r) (k.Else ▸ statement))
+
+-- stmt ["else" stmt]
+unfoldable pub if_rest : C (tree.Expr → stmts.Body)
+if_rest = both (λ s f e. f e s) statement else_
+
+-- "if" "(" expr ")" stmt ["else" stmt]
 unfoldable pub if_ : C Placed
-if_ = form k.If (three (λ e s f. f e s) (in_parentheses expr) statement (Opt stmts.If (Map (λ r e s. stmts.IfElse e s r) (k.Else ▸ statement))))
+if_ = form k.If (then_ (in_parentheses expr) if_rest)
 
 -- "case" | "casez" | "casex"
 abbrev pub case_words : Words CaseWord
 case_words = (k.Case, case_word.Exact) ∷ (k.Casez, case_word.Z) ∷ (k.Casex, case_word.X) ∷ []
 
+-- "default" [":"] stmt
+unfoldable pub default_arm : C (stmts.Arms → stmts.Arms)
+default_arm = Map (λ s rest. stmts.Default s rest) (k.Default ▸ Map (λ p. p.1) (Seq (optional (tok k.Colon)) statement))
+
+-- list(expr) ":" stmt
+unfoldable pub labelled_arm : C (stmts.Arms → stmts.Arms)
+labelled_arm = both (λ es s rest. stmts.Labels (exprs es) s rest) (list expr ◂ k.Colon) statement
+
 -- list(expr) ":" stmt | "default" [":"] stmt
 unfoldable pub arm : C (stmts.Arms → stmts.Arms)
-arm =
-    Alt (Map (λ s rest. stmts.Default s rest) (k.Default ▸ Map (λ p. p.1) (Seq (optional (tok k.Colon)) statement)))
-    (both (λ es s rest. stmts.Labels (exprs es) s rest) (list expr ◂ k.Colon) statement)
+arm = Alt default_arm labelled_arm
 
--- {list(expr) ":" stmt | "default" [":"] stmt}
-unfoldable pub arms : C stmts.Arms
-arms = Map (stacked stmts.NoArm) (Rep arm)
+-- {list(expr) ":" stmt | "default" [":"] stmt} "endcase"
+unfoldable pub case_rest : C stmts.Arms
+case_rest = Map (stacked stmts.NoArm) (Rep arm) ◂ k.Endcase
 
 -- ("case" | "casez" | "casex") "(" expr ")" {..} "endcase"
 unfoldable pub case_ : C Placed
-case_ = three (λ t e as_. placed t.at (stmts.Case (chosen case_word.X case_words t.code) e as_)) (word case_words) (in_parentheses expr) (arms ◂ k.Endcase)
+case_ = three (λ t e as_. placed t.at (stmts.Case (chosen case_word.X case_words t.code) e as_)) (word case_words) (in_parentheses expr) case_rest
 
 -- step = lval ("=" | aop) expr | lval ("++" | "--") | ("++" | "--") lval
 unfoldable pub step_rest : C (tree.Lval → Place → stmts.Last)
@@ -207,18 +255,25 @@ abbrev pub place_of_target : tree.Lval → Place
 place_of_target (tree.Target r s) = tree.place_of_root r
 place_of_target (tree.Targets at ls) = at
 
+-- ("++" | "--") lval
+unfoldable pub step_before : C stmts.Last
+step_before = both (λ t l. stmts.ThenStep t.at l (step_word_of t)) (word step_words) lval
+
 -- step
 unfoldable pub step : C stmts.Last
-step = Alt (both (λ l f. f l (place_of_target l)) lval step_rest) (both (λ t l. stmts.ThenStep t.at l (step_word_of t)) (word step_words) lval)
+step = Alt (both (λ l f. f l (place_of_target l)) lval step_rest) step_before
+
+-- what follows a name at the front: id "=" expr, or the rest of a target and "=" expr
+unfoldable pub first_rest : C (Name → stmts.First)
+first_rest = Alt (both (λ n e t. stmts.Declare (written.Named t) n e) name (k.Equals ▸ expr)) (three (λ m s e n. stmts.Begin (tree.Target (named_root n m) s) e) scoped suffixes (k.Equals ▸ expr))
+
+-- a target that begins with no name
+unfoldable pub unnamed_lval : C tree.Lval
+unnamed_lval = Alt (Map (λ p. tree.Target p.0 p.1) this_post) (Alt (Map (λ p. tree.Target p.0 p.1) super_post) targets)
 
 -- type id "=" expr | lval "=" expr
 unfoldable pub first_part : C stmts.First
-first_part =
-    Alt (then_ name (Alt (both (λ n e t. stmts.Declare (written.Named t) n e) name (k.Equals ▸ expr)) (three (λ m s e n. stmts.Begin (tree.Target (named_root n m) s) e) scoped suffixes (k.Equals ▸ expr))))
-    (Alt (three stmts.Declare word_type name (k.Equals ▸ expr))
-    (both stmts.Begin
-    (Alt (Map (λ p. tree.Target p.0 p.1) this_post) (Alt (three (λ t n s. tree.Target (root.Super t.at n) s) (tok k.Super ◂ k.Dot) name suffixes) targets))
-    (k.Equals ▸ expr)))
+first_part = Alt (then_ name first_rest) (Alt (three stmts.Declare word_type name (k.Equals ▸ expr)) (both stmts.Begin unnamed_lval (k.Equals ▸ expr)))
 
 -- "for" "(" .. ";" expr ";" step ")" stmt
 unfoldable pub for_ : C Placed
@@ -228,9 +283,13 @@ for_ = form k.For (four stmts.For (k.LeftParenthesis ▸ first_part ◂ k.Semico
 unfoldable pub while_ : C Placed
 while_ = form k.While (both stmts.While (in_parentheses expr) statement)
 
+-- stmt "while" "(" expr ")" ";"
+unfoldable pub do_rest : C stmts.Body
+do_rest = both stmts.Do statement (k.While ▸ in_parentheses expr ◂ k.Semicolon)
+
 -- "do" stmt "while" "(" expr ")" ";"
 unfoldable pub do_ : C Placed
-do_ = form k.Do (both stmts.Do statement (k.While ▸ in_parentheses expr ◂ k.Semicolon))
+do_ = form k.Do do_rest
 
 -- "repeat" "(" expr ")" stmt
 unfoldable pub repeat : C Placed
@@ -256,9 +315,13 @@ at_event = form k.At (both stmts.On_event event statement)
 unfoldable pub cycles : C Placed
 cycles = three (λ t e s. placed t.at (stmts.Cycles t.at e s)) (tok k.HashHash) cycles_amount statement
 
+-- "(" expr ")" stmt | "fork" ";"
+unfoldable pub wait_rest : C (Tok → Placed)
+wait_rest = Alt (both (λ e s t. placed t.at (stmts.Wait t.at e s)) (in_parentheses expr) statement) (Map (λ u t. placed t.at stmts.WaitFork) (k.Fork ▸ tok k.Semicolon))
+
 -- "wait" "(" expr ")" stmt | "wait" "fork" ";"
 unfoldable pub wait : C Placed
-wait = then_ (tok k.Wait) (Alt (both (λ e s t. placed t.at (stmts.Wait t.at e s)) (in_parentheses expr) statement) (Map (λ u t. placed t.at stmts.WaitFork) (k.Fork ▸ tok k.Semicolon)))
+wait = then_ (tok k.Wait) wait_rest
 
 -- "void" "'" "(" call ")" ";"
 unfoldable pub ignore : C Placed
@@ -268,19 +331,55 @@ ignore = both (λ t e. placed t.at (stmts.Ignore t.at e)) (tok k.Void ◂ k.Apos
 unfoldable pub return_ : C Placed
 return_ = form k.Return (Map stmts.Return (optional expr ◂ k.Semicolon))
 
+-- ";"
+unfoldable pub null_statement : C Placed
+null_statement = form k.Semicolon (Done stmts.Null)
+
+-- ("++" | "--") lval ";"
+unfoldable pub step_statement : C Placed
+step_statement = both (λ t l. placed t.at (stmts.Step l (step_word_of t))) (word step_words) (lval ◂ k.Semicolon)
+
+-- sysname ["(" [list(expr)] ")"] ";"
+unfoldable pub system_statement : C Placed
+system_statement = Map (λ e. placed (tree.place_of e) (stmts.Call e)) (system_call ◂ k.Semicolon)
+
+-- "this" {..}, and an assignment to it or the end of a call
+unfoldable pub this_statement : C Placed
+this_statement = both (λ p f. placed (tree.place_of_root p.0) (f p)) this_post post_end
+
+-- an assignment to targets in braces
+unfoldable pub targets_statement : C Placed
+targets_statement = both (λ l f. placed (place_of_target l) (f l)) targets assign_end
+
+-- "disable" "fork" ";"
+unfoldable pub disable : C Placed
+disable = form k.Disable (Map (λ t. stmts.DisableFork) (k.Fork ▸ tok k.Semicolon))
+
+-- "->" lval ";"
+unfoldable pub trigger : C Placed
+trigger = form k.Arrow (Map stmts.Trigger (lval ◂ k.Semicolon))
+
+-- "break" ";"
+unfoldable pub break_ : C Placed
+break_ = form k.Break (Map (λ t. stmts.Break) (tok k.Semicolon))
+
+-- "continue" ";"
+unfoldable pub continue_ : C Placed
+continue_ = form k.Continue (Map (λ t. stmts.Continue) (tok k.Semicolon))
+
 -- ---- statements
 
 -- a form that begins with no name
 unfoldable pub unnamed : C Placed
 unnamed =
-    Alt (form k.Semicolon (Done stmts.Null))
+    Alt null_statement
     (Alt block
     (Alt fork
-    (Alt (both (λ t l. placed t.at (stmts.Step l (step_word_of t))) (word step_words) (lval ◂ k.Semicolon))
-    (Alt (Map (λ e. placed (tree.place_of e) (stmts.Call e)) (system_call ◂ k.Semicolon))
+    (Alt step_statement
+    (Alt system_statement
     (Alt super_statement
-    (Alt (both (λ p f. placed (tree.place_of_root p.0) (f p)) this_post post_end)
-    (Alt (both (λ l f. placed (place_of_target l) (f l)) targets assign_end)
+    (Alt this_statement
+    (Alt targets_statement
     (Alt ignore
     (Alt if_
     (Alt case_
@@ -294,10 +393,10 @@ unnamed =
     (Alt at_event
     (Alt cycles
     (Alt wait
-    (Alt (form k.Disable (Map (λ t. stmts.DisableFork) (k.Fork ▸ tok k.Semicolon)))
-    (Alt (form k.Arrow (Map stmts.Trigger (lval ◂ k.Semicolon)))
-    (Alt (form k.Break (Map (λ t. stmts.Break) (tok k.Semicolon)))
-    (Alt (form k.Continue (Map (λ t. stmts.Continue) (tok k.Semicolon)))
+    (Alt disable
+    (Alt trigger
+    (Alt break_
+    (Alt continue_
     return_))))))))))))))))))))))))
 
 -- a form that begins with a name

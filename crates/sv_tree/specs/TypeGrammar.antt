@@ -17,7 +17,7 @@ use Rattle.sv_tree.specs.declared.expr.CastType.TheVariants as cast_type
 use Rattle.sv_tree.specs.Expr as tree
 use Rattle.sv_tree.specs.Written as written
 use Rattle.sv_tree.specs.Stmt as stmts
-use Rattle.sv_tree.specs.Forms.{A_type, C, Words, tok, word, chosen, ◌▸◌, ◌◂◌, both, three, then_, optional, otherwise, list, list_or_none, in_parentheses, in_brackets, in_braces, name, exprs}
+use Rattle.sv_tree.specs.Forms.{A_type, C, Words, tok, word, chosen, ◌▸◌, ◌◂◌, both, three, then_, optional, otherwise, commas, list, list_or_none, in_parentheses, in_brackets, in_braces, name, exprs}
 use Rattle.sv_tree.specs.ExprGrammar.{vector_words, atom_words, expr, plain_expr, cast_rest, with_cast}
 
 -- "signed" | "unsigned"
@@ -66,15 +66,27 @@ abbrev pub mailbox_of : Tok → Option written.Written → written.Written
 mailbox_of t None = written.Mailbox t.at
 mailbox_of t (Some u) = written.MailboxOf t.at u
 
+-- ("bit" | "logic" | "reg") [sign] [range]
+unfoldable pub vector_type : C written.Written
+vector_type = both vector_of (word vector_words) vector_rest
+
+-- ("byte" | "shortint" | "int" | "longint" | "integer" | "time") [sign]
+unfoldable pub atom_type : C written.Written
+atom_type = both atom_of (word atom_words) sign
+
+-- "mailbox" ["#" "(" type ")"]
+unfoldable pub mailbox_type : C written.Written
+mailbox_type = both mailbox_of (tok k.Mailbox) mailbox_rest
+
 -- the types that a word begins
 unfoldable pub word_type : C written.Written
 word_type =
-    Alt (both vector_of (word vector_words) vector_rest)
-    (Alt (both atom_of (word atom_words) sign)
+    Alt vector_type
+    (Alt atom_type
     (Alt (Map (λ t. written.Text t.at) (tok k.String))
     (Alt (Map (λ t. written.Event t.at) (tok k.Event))
     (Alt (Map (λ t. written.Semaphore t.at) (tok k.Semaphore))
-    (Alt (both mailbox_of (tok k.Mailbox) mailbox_rest) enum)))))
+    (Alt mailbox_type enum)))))
 
 -- id
 unfoldable pub named_type : C written.Written
@@ -97,9 +109,13 @@ abbrev pub names_of : Name → Option Name → written.Implied × Name
 names_of n None = (written.Nothing, n)
 names_of n (Some m) = (written.Type_of (written.Named n), m)
 
+-- id, or a type that is a name, and id
+unfoldable pub named_name : C (written.Implied × Name)
+named_name = both names_of name (optional name)
+
 -- [itype] id
 unfoldable pub typed_name : C (written.Implied × Name)
-typed_name = Alt (Seq unnamed_implied name) (both names_of name (optional name))
+typed_name = Alt (Seq unnamed_implied name) named_name
 
 -- ---- dimensions
 
@@ -178,7 +194,7 @@ declarators = list declarator
 
 -- what follows the first name of a list of declarators
 unfoldable pub more_declarators : C (Name → List stmts.Declarator)
-more_declarators = both (λ f ds n. f n ∷ ds) declarator_rest (Rep (k.Comma ▸ declarator))
+more_declarators = both (λ f ds n. f n ∷ ds) declarator_rest (commas declarator)
 
 -- "automatic" | "static"
 abbrev pub life_words : Words Life
@@ -200,12 +216,21 @@ typed l = both (decl_of l) type (declarators ◂ k.Semicolon)
 abbrev pub var_typed : C (Life → stmts.Decl)
 var_typed = three (λ v t ds l. decl_of l t ds) (optional (tok k.Var)) type (declarators ◂ k.Semicolon)
 
+-- life ["var"] type list(..) ";"
+unfoldable pub life_decl : C stmts.Decl
+life_decl = then_ life var_typed
+
+-- "var" type list(..) ";"
+unfoldable pub var_decl : C stmts.Decl
+var_decl = k.Var ▸ typed life_word.Unwritten
+
+-- a type that a word begins, and list(..) ";"
+unfoldable pub plain_decl : C stmts.Decl
+plain_decl = both (decl_of life_word.Unwritten) word_type (declarators ◂ k.Semicolon)
+
 -- decl = [life] ["var"] type list(id [dim] ["=" init]) ";", but for those that a name begins
 unfoldable pub word_decl : C stmts.Decl
-word_decl =
-    Alt (then_ life var_typed)
-    (Alt (k.Var ▸ typed life_word.Unwritten)
-    (both (decl_of life_word.Unwritten) word_type (declarators ◂ k.Semicolon)))
+word_decl = Alt life_decl (Alt var_decl plain_decl)
 
 -- what follows a name that is the type of a declaration
 unfoldable pub named_decl_rest : C (Name → stmts.Decl)

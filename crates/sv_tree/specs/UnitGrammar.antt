@@ -19,9 +19,9 @@ use Rattle.sv_tree.specs.Expr as tree
 use Rattle.sv_tree.specs.Written as written
 use Rattle.sv_tree.specs.Stmt as stmts
 use Rattle.sv_tree.specs.Units as units
-use Rattle.sv_tree.specs.Forms.{C, Words, tok, any_of, word, chosen, ◌▸◌, ◌◂◌, both, three, four, then_, optional, otherwise, list, list_or_none, in_parentheses, name, label, statement}
+use Rattle.sv_tree.specs.Forms.{C, Words, tok, any_of, word, chosen, ◌▸◌, ◌◂◌, both, three, four, then_, optional, otherwise, commas, list, list_or_none, in_parentheses, name, label, statement}
 use Rattle.sv_tree.specs.ExprGrammar.{expr, lval}
-use Rattle.sv_tree.specs.TypeGrammar.{range, sign, type, word_type, named_type, unnamed_implied, names_of, typed_name, declarators, decl_of, life, word_decl, named_decl_rest}
+use Rattle.sv_tree.specs.TypeGrammar.{range, sign, type, word_type, named_type, unnamed_implied, names_of, typed_name, declarators, more_declarators, decl_of, life, word_decl, named_decl_rest}
 use Rattle.sv_tree.specs.StmtGrammar.{amount, edge, block_items, decls_of, stmts_of}
 
 -- [life]
@@ -48,7 +48,7 @@ param_words = (k.Parameter, false) ∷ (k.Localparam, true) ∷ []
 
 -- param = ("parameter" | "localparam") [itype] list(id "=" expr)
 unfoldable pub param : C units.Param
-param = four (λ t p e ps. param_of (chosen true param_words t.code) p.0 (param_item_of p.1 e ∷ ps)) (word param_words) typed_name (k.Equals ▸ expr) (Rep (k.Comma ▸ param_item))
+param = four (λ t p e ps. param_of (chosen true param_words t.code) p.0 (param_item_of p.1 e ∷ ps)) (word param_words) typed_name (k.Equals ▸ expr) (commas param_item)
 
 -- ["parameter"] [itype] id "=" expr
 unfoldable pub unit_param : C units.Param
@@ -79,15 +79,23 @@ directed_port = three (λ t w p. record { direction = Some (chosen direction.Out
 unfoldable pub plain_port : C units.Port
 plain_port = Map (λ n. record { direction = None; is_net = false; type = written.Nothing; name = n }) name
 
+-- a port behind the first
+unfoldable pub next_port : C units.Port
+next_port = Alt directed_port plain_port
+
 -- ports = "(" [list(port)] ")", where the first port has a direction
 unfoldable pub ports : C (List units.Port)
-ports = in_parentheses (otherwise [] (both (λ p ps. p ∷ ps) directed_port (Rep (k.Comma ▸ Alt directed_port plain_port))))
+ports = in_parentheses (otherwise [] (both (λ p ps. p ∷ ps) directed_port (commas next_port)))
 
 -- ---- types and subroutines
 
+-- "class" id | type id
+unfoldable pub typedef_rest : {R : Type 0} → (written.Written → Name → R) → (Name → R) → C R
+typedef_rest new announce = Alt (Map announce (k.Class ▸ name)) (both new type name)
+
 -- typedef = "typedef" (type id | "class" id) ";"
 unfoldable pub typedef : {R : Type 0} → (written.Written → Name → R) → (Name → R) → C R
-typedef new announce = k.Typedef ▸ Alt (Map announce (k.Class ▸ name)) (both new type name) ◂ k.Semicolon
+typedef new announce = k.Typedef ▸ typedef_rest new announce ◂ k.Semicolon
 
 -- "input" | "output" | "inout"
 abbrev pub argument_directions : Words Direction
@@ -117,25 +125,39 @@ Called = Bool × written.Implied × Name
 unfoldable pub called : C Called
 called = Alt (Map (λ t. (false, written.Nothing, new_name t)) (tok k.New)) (Alt (Map (λ n. (true, written.Nothing, n)) (k.Void ▸ name)) (Map (λ p. (false, p.0, p.1)) typed_name))
 
--- head = "function" [life] ("new" | ["void" | itype] id) [args] | "task" [life] id [args]
-unfoldable pub head : C units.Head
-head = Alt
-    (four (λ t l c as_. record { at = t.at; is_task = false; life = l; is_void = c.0; type = c.1; name = c.2; arguments = as_ }) (tok k.Function) maybe_life called maybe_arguments)
-    (four (λ t l n as_. record { at = t.at; is_task = true; life = l; is_void = true; type = written.Nothing; name = n; arguments = as_ }) (tok k.Task) maybe_life name maybe_arguments)
+-- "function" [life] ("new" | ["void" | itype] id) [args]
+unfoldable pub function_head : C units.Head
+function_head = four (λ t l c as_. record { at = t.at; is_task = false; life = l; is_void = c.0; type = c.1; name = c.2; arguments = as_ }) (tok k.Function) maybe_life called maybe_arguments
 
--- [":" (id | "new")]
-abbrev pub routine_label : C (Option Name)
-routine_label = optional (k.Colon ▸ Alt name (Map new_name (tok k.New)))
+-- "task" [life] id [args]
+unfoldable pub task_head : C units.Head
+task_head = four (λ t l n as_. record { at = t.at; is_task = true; life = l; is_void = true; type = written.Nothing; name = n; arguments = as_ }) (tok k.Task) maybe_life name maybe_arguments
+
+-- head
+unfoldable pub head : C units.Head
+head = Alt function_head task_head
+
+-- id | "new"
+unfoldable pub routine_name : C Name
+routine_name = Alt name (Map new_name (tok k.New))
+
+-- ("endfunction" | "endtask") [":" (id | "new")]
+unfoldable pub routine_end : C (Option Name)
+routine_end = Map (λ p. p.1) (Seq (any_of (k.Endfunction ∷ k.Endtask ∷ [])) (optional (k.Colon ▸ routine_name)))
 
 -- routine = head ";" {decl} {stmt} ("endfunction" | "endtask") [":" (id | "new")]
 unfoldable pub routine : C units.Routine
-routine = three (λ h is l. record { head = h; decls = decls_of is; body = stmts_of is; label = l }) (head ◂ k.Semicolon) block_items (Map (λ p. p.1) (Seq (any_of (k.Endfunction ∷ k.Endtask ∷ [])) routine_label))
+routine = three (λ h is l. record { head = h; decls = decls_of is; body = stmts_of is; label = l }) (head ◂ k.Semicolon) block_items routine_end
 
 -- ---- clocking blocks
 
+-- number | time | id | "(" expr ")" | "1step"
+unfoldable pub skew_rest : C (Tok → units.Skew)
+skew_rest = Alt (Map (λ e t. units.Amount t.at e) amount) (Map (λ u t. units.OneStep t.at) (tok k.OneStep))
+
 -- skew = "#" (number | time | id | "(" expr ")") | "#" "1step"
 unfoldable pub skew : C units.Skew
-skew = then_ (tok k.Hash) (Alt (Map (λ e t. units.Amount t.at e) amount) (Map (λ u t. units.OneStep t.at) (tok k.OneStep)))
+skew = then_ (tok k.Hash) skew_rest
 
 -- a direction with its skew
 abbrev pub side : Direction → Option units.Skew → units.Sided
@@ -150,26 +172,45 @@ abbrev pub input_and : Option units.Skew → Option (Option units.Skew) → List
 input_and i None = side direction.Input i ∷ []
 input_and i (Some o) = side direction.Input i ∷ side direction.Output o ∷ []
 
+-- "output" [skew]
+unfoldable pub output_side : C (Option units.Skew)
+output_side = k.Output ▸ optional skew
+
+-- "input" [skew] ["output" [skew]]
+unfoldable pub input_side : C (List units.Sided)
+input_side = both input_and (k.Input ▸ optional skew) (optional output_side)
+
 -- "input" [skew] | "output" [skew] | "input" [skew] "output" [skew] | "inout"
 unfoldable pub sides : C (List units.Sided)
-sides =
-    Alt (both input_and (k.Input ▸ optional skew) (optional (k.Output ▸ optional skew)))
-    (Alt (Map (λ o. side direction.Output o ∷ []) (k.Output ▸ optional skew))
-    (Map (λ t. side direction.Inout None ∷ []) (tok k.Inout)))
+sides = Alt input_side (Alt (Map (λ o. side direction.Output o ∷ []) output_side) (Map (λ t. side direction.Inout None ∷ []) (tok k.Inout)))
+
+-- "default" {("input" | "output") skew} ";"
+unfoldable pub default_skews : C units.ClockingItem
+default_skews = Map units.Default (k.Default ▸ Rep default_skew ◂ k.Semicolon)
 
 -- citems
 unfoldable pub clocking_item : C units.ClockingItem
-clocking_item = Alt (Map units.Default (k.Default ▸ Rep default_skew ◂ k.Semicolon)) (both units.Signals sides (list name ◂ k.Semicolon))
+clocking_item = Alt default_skews (both units.Signals sides (list name ◂ k.Semicolon))
 
 -- "@" "(" ["posedge" | "negedge"] id ")" ";" {citems} "endclocking" [":" id]
 unfoldable pub clocking_rest : C (Name → Option Place → units.Item)
 clocking_rest = four (λ w e cs l n d. units.Clocking d n w e cs l) (k.At ▸ k.LeftParenthesis ▸ edge) (name ◂ k.RightParenthesis ◂ k.Semicolon) (Rep clocking_item) (k.Endclocking ▸ label)
 
+-- "clocking" id ..
+unfoldable pub plain_clocking : C units.Item
+plain_clocking = both (λ n f. f n None) (k.Clocking ▸ name) clocking_rest
+
+-- ";" | "@" ..
+unfoldable pub default_rest : C (Name → Place → units.Item)
+default_rest = Alt (Map (λ u n at. units.DefaultClocking at n) (tok k.Semicolon)) (Map (λ f n at. f n (Some at)) clocking_rest)
+
+-- "default" "clocking" id (";" | "@" ..)
+unfoldable pub default_clocking : C units.Item
+default_clocking = three (λ t n (f : Name → Place → units.Item). f n t.at) (tok k.Default ◂ k.Clocking) name default_rest
+
 -- clocking = ["default"] "clocking" id .. | "default" "clocking" id ";"
 unfoldable pub clocking : C units.Item
-clocking = Alt
-    (both (λ n f. f n None) (k.Clocking ▸ name) clocking_rest)
-    (three (λ t n (f : Name → Place → units.Item). f n t.at) (tok k.Default ◂ k.Clocking) name (Alt (Map (λ u n at. units.DefaultClocking at n) (tok k.Semicolon)) (Map (λ f n at. f n (Some at)) clocking_rest)))
+clocking = Alt plain_clocking default_clocking
 
 -- ---- classes
 
@@ -189,24 +230,33 @@ qualifiers_of ts = record { is_local = has_word k.Local ts; is_protected = has_w
 abbrev pub class_typed : Life → C stmts.Decl
 class_typed l = both (decl_of l) type (declarators ◂ k.Semicolon)
 
+-- "automatic" ["var"] type list(..) ";"
+unfoldable pub automatic_decl : C stmts.Decl
+automatic_decl = three (λ v t ds. decl_of life_word.Automatic t ds) (k.Automatic ▸ optional (tok k.Var)) type (declarators ◂ k.Semicolon)
+
 -- a declaration in a class, in which "static" is no life
 unfoldable pub class_decl : C stmts.Decl
-class_decl =
-    Alt (three (λ v t ds. decl_of life_word.Automatic t ds) (k.Automatic ▸ optional (tok k.Var)) type (declarators ◂ k.Semicolon))
-    (Alt (k.Var ▸ class_typed life_word.Unwritten) (class_typed life_word.Unwritten))
+class_decl = Alt automatic_decl (Alt (k.Var ▸ class_typed life_word.Unwritten) (class_typed life_word.Unwritten))
 
 -- decl | routine, after the words before it
 unfoldable pub member : C (List Tok → units.ClassItem)
 member = Alt (Map (λ d ts. units.Property (qualifiers_of ts) d) class_decl) (Map (λ r ts. units.Method (qualifiers_of ts) r) routine)
 
+-- "pure" "virtual" head ";"
+unfoldable pub pure_method : C units.ClassItem
+pure_method = both (λ t h. units.Pure t.at h) (tok k.Pure ◂ k.Virtual) (head ◂ k.Semicolon)
+
+-- qualifiers, and decl | routine
+unfoldable pub qualified : C units.ClassItem
+qualified = three (λ t ts f. f (t ∷ ts)) (any_of qualifier_words) (Rep (any_of qualifier_words)) member
+
 -- citem = {"local" | "protected" | "static" | "virtual"} (decl | routine) | "pure" "virtual" head ";" | typedef | ";"
 unfoldable pub class_item : C units.ClassItem
 class_item =
-    Alt (both (λ t h. units.Pure t.at h) (tok k.Pure ◂ k.Virtual) (head ◂ k.Semicolon))
+    Alt pure_method
     (Alt (typedef units.Class_typedef units.Class_announce)
     (Alt (Map (λ t. units.Nothing_here) (tok k.Semicolon))
-    (Alt (three (λ t ts f. f (t ∷ ts)) (any_of qualifier_words) (Rep (any_of qualifier_words)) member)
-    (Map (λ f. f []) member))))
+    (Alt qualified (Map (λ f. f []) member))))
 
 -- a class of its parts
 abbrev pub class_of : Bool → Tok → Name → Option Name → List units.ClassItem × Option Name → units.Class
@@ -216,24 +266,31 @@ class_of is_virtual t n base p = record { at = t.at; is_virtual = is_virtual; na
 unfoldable pub class_rest : C (Bool → Tok → units.Class)
 class_rest = three (λ n b p v t. class_of v t n b p) name (optional (k.Extends ▸ name)) (k.Semicolon ▸ Seq (Rep class_item) (k.Endclass ▸ label))
 
+-- "virtual" "class" id ..
+unfoldable pub virtual_class : C units.Class
+virtual_class = both (λ t f. f true t) (tok k.Virtual ◂ k.Class) class_rest
+
+-- "class" id ..
+unfoldable pub plain_class : C units.Class
+plain_class = both (λ t f. f false t) (tok k.Class) class_rest
+
 -- class = ["virtual"] "class" id ..
 unfoldable pub class : C units.Class
-class = Alt (both (λ t f. f true t) (tok k.Virtual ◂ k.Class) class_rest) (both (λ t f. f false t) (tok k.Class) class_rest)
+class = Alt virtual_class plain_class
 
 -- ---- items
 
 -- what stands in modules, programs and outside both
-abbrev pub named_items : C units.Item
+unfoldable pub named_items : C units.Item
 named_items = Alt (typedef units.Typedef units.Announce) (Alt (Map units.Class_item class) (Alt (Map units.Parameter (param ◂ k.Semicolon)) (Map units.Routine_item routine)))
+
+-- "initial" stmt
+unfoldable pub initial : C units.Item
+initial = both (λ t s. units.Process t.at procedure.Initial s) (tok k.Initial) statement
 
 -- common, but for declarations that a name begins
 unfoldable pub common : C units.Item
-common =
-    Alt (Map units.Declare word_decl)
-    (Alt named_items
-    (Alt clocking
-    (Alt (both (λ t s. units.Process t.at procedure.Initial s) (tok k.Initial) statement)
-    (Map (λ t. units.Nothing) (tok k.Semicolon)))))
+common = Alt (Map units.Declare word_decl) (Alt named_items (Alt clocking (Alt initial (Map (λ t. units.Nothing) (tok k.Semicolon)))))
 
 -- a declaration that a name begins
 unfoldable pub named_decl : C units.Item
@@ -248,11 +305,17 @@ abbrev pub given_of : Name → Option (Option tree.Expr) → Tok → units.Conne
 given_of n None t = units.Same t.at n
 given_of n (Some e) t = units.Given t.at n e
 
+-- "(" [expr] ")"
+unfoldable pub given : C (Option tree.Expr)
+given = in_parentheses (optional expr)
+
+-- "." id ["(" [expr] ")"]
+unfoldable pub dotted : C units.Connection
+dotted = then_ (tok k.Dot) (both given_of name (optional given))
+
 -- conn
 unfoldable pub connection : C units.Connection
-connection =
-    Alt (then_ (tok k.Dot) (both given_of name (optional (in_parentheses (optional expr)))))
-    (Alt (Map (λ t. units.All t.at) (tok k.DotStar)) (Map units.Value expr))
+connection = Alt dotted (Alt (Map (λ t. units.All t.at) (tok k.DotStar)) (Map units.Value expr))
 
 -- "(" [list(conn)] ")"
 unfoldable pub connections : C (List units.Connection)
@@ -266,17 +329,29 @@ instance_of n cs = record { name = n; connections = cs }
 unfoldable pub instance : C units.Instance
 instance = both instance_of name connections
 
+-- after two names: the connections of an instance, and further instances
+unfoldable pub instances_rest : C (Name → Name → units.Item)
+instances_rest = both (λ cs is u n. units.Instances u [] (instance_of n cs ∷ is)) connections (commas instance ◂ k.Semicolon)
+
+-- after two names: the rest of a declaration
+unfoldable pub decl_rest : C (Name → Name → units.Item)
+decl_rest = Map (λ f u n. units.Declare (decl_of life_word.Unwritten (written.Named u) (f n))) (more_declarators ◂ k.Semicolon)
+
 -- after two names: an instance, or a declaration
 unfoldable pub second_named : C (Name → Name → units.Item)
-second_named = Alt
-    (both (λ cs is u n. units.Instances u [] (instance_of n cs ∷ is)) connections (Rep (k.Comma ▸ instance) ◂ k.Semicolon))
-    (Map (λ f u n. units.Declare (decl_of life_word.Unwritten (written.Named u) (f n))) (Rattle.sv_tree.specs.TypeGrammar.more_declarators ◂ k.Semicolon))
+second_named = Alt instances_rest decl_rest
+
+-- "#" "(" list(conn) ")" list(id "(" [list(conn)] ")") ";"
+unfoldable pub valued_instances : C (Name → units.Item)
+valued_instances = both (λ cs is u. units.Instances u cs is) (k.Hash ▸ in_parentheses (list connection)) (list instance ◂ k.Semicolon)
+
+-- what follows a name at the front of an item of a module
+unfoldable pub named_item_rest : C (Name → units.Item)
+named_item_rest = Alt valued_instances (both (λ n f u. f u n) name second_named)
 
 -- inst = id ["#" "(" list(conn) ")"] list(id "(" [list(conn)] ")") ";", or a declaration that a name begins
 unfoldable pub named_item : C units.Item
-named_item = then_ name (Alt
-    (both (λ cs is u. units.Instances u cs is) (k.Hash ▸ in_parentheses (list connection)) (list instance ◂ k.Semicolon))
-    (both (λ n f u. f u n) name second_named))
+named_item = then_ name named_item_rest
 
 -- a net and what drives it
 abbrev pub net_item_of : Name → Option tree.Expr → units.NetItem
@@ -286,9 +361,13 @@ net_item_of n e = record { name = n; value = e }
 unfoldable pub net_item : C units.NetItem
 net_item = both net_item_of name (optional (k.Equals ▸ expr))
 
+-- ("wire" | "tri") ["logic"]
+unfoldable pub net_word : C Tok
+net_word = Map (λ p. p.0) (Seq (any_of net_words) (optional (tok k.Logic)))
+
 -- net = ("wire" | "tri") ["logic"] [sign] [range] list(id ["=" expr]) ";"
 unfoldable pub net : C units.Item
-net = four (λ t s r ns. units.Net t.at s r ns) (Map (λ p. p.0) (Seq (any_of net_words) (optional (tok k.Logic)))) sign (optional range) (list net_item ◂ k.Semicolon)
+net = four (λ t s r ns. units.Net t.at s r ns) net_word sign (optional range) (list net_item ◂ k.Semicolon)
 
 -- a continuous assignment of its parts
 abbrev pub assign_item_of : tree.Lval → tree.Expr → units.AssignItem
@@ -302,14 +381,17 @@ assign_item = both assign_item_of lval (k.Equals ▸ expr)
 abbrev pub procedure_words : Words Procedure
 procedure_words = (k.Always, procedure.Always) ∷ (k.AlwaysComb, procedure.AlwaysComb) ∷ (k.AlwaysFf, procedure.AlwaysFf) ∷ []
 
+-- "assign" list(lval "=" expr) ";"
+unfoldable pub assign : C units.Item
+assign = Map units.Assign (k.Assign ▸ list assign_item ◂ k.Semicolon)
+
+-- ("always" | "always_comb" | "always_ff") stmt
+unfoldable pub always : C units.Item
+always = both (λ t s. units.Process t.at (chosen procedure.AlwaysFf procedure_words t.code) s) (word procedure_words) statement
+
 -- mitem = common | net | "assign" list(lval "=" expr) ";" | inst | ("always" | "always_comb" | "always_ff") stmt
 unfoldable pub module_item : C units.Item
-module_item =
-    Alt common
-    (Alt net
-    (Alt (Map units.Assign (k.Assign ▸ list assign_item ◂ k.Semicolon))
-    (Alt (both (λ t s. units.Process t.at (chosen procedure.AlwaysFf procedure_words t.code) s) (word procedure_words) statement)
-    named_item)))
+module_item = Alt common (Alt net (Alt assign (Alt always named_item)))
 
 -- ---- units
 
@@ -318,7 +400,7 @@ abbrev pub program_of : Bool → Tok → Life × Name → Option (List units.Par
 program_of is_program t ln pp is l = record { at = t.at; is_program = is_program; life = ln.0; name = ln.1; params = pp.0; ports = pp.1; items = is; label = l }
 
 -- [pports] [ports] ";"
-abbrev pub unit_head : C (Option (List units.Param) × List units.Port)
+unfoldable pub unit_head : C (Option (List units.Param) × List units.Port)
 unit_head = Seq (optional unit_params) (otherwise [] ports) ◂ k.Semicolon
 
 -- module = "module" [life] id [pports] [ports] ";" {mitem} "endmodule" [":" id]
