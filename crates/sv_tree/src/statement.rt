@@ -105,7 +105,7 @@ pub enum Last {
     Step(Place, Lval, StepWord),
 }
 
-/// `stmt = [id ":"] body`, at its first token (A.6.4)
+/// `stmt = [id ":"] body` (A.6.4), at the first token of its body; the label has its own place
 #[derive(Drop)]
 #[cycle(stmt)]
 pub struct Stmt {

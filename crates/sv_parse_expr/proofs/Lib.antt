@@ -1,0 +1,7 @@
+pub mod Loops
+pub mod Parts
+pub mod Links
+pub mod Prims
+pub mod Calls
+pub mod Exact
+pub mod TargetLaws
