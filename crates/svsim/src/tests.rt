@@ -198,7 +198,11 @@ fn tells_a_failing_log(rt: HostRuntime) -> Result<(), Fail> {
         let mut out = MemSink::new(alloc);
         out.fail_at(call, keep)?;
         let words = words_of(alloc, &["run", "a.sv"])?;
-        assert_eq!(rt; simulate(alloc, &words, &mut shelf, &mut out), 6, "at {call}, {keep}");
+        assert_eq!(rt;
+            simulate(alloc, &words, &mut shelf, &mut out),
+            6,
+            "at {call}, {keep}"
+        );
         assert_eq!(rt; out.bytes(), log.as_bytes(), "at {call}, {keep}");
     }
     Ok(())
@@ -216,7 +220,11 @@ fn tells_a_file_that_is_not_read(rt: HostRuntime) -> Result<(), Fail> {
     ] {
         let mut out = GoodSink::new(alloc);
         let words = words_of(alloc, &["run", file])?;
-        assert_eq!(rt; simulate(alloc, &words, &mut shelf, &mut out), 5, "at {file}");
+        assert_eq!(rt;
+            simulate(alloc, &words, &mut shelf, &mut out),
+            5,
+            "at {file}"
+        );
         assert_eq!(rt; out.bytes(), log.as_bytes(), "at {file}");
     }
     Ok(())
