@@ -13,7 +13,7 @@ use crate::names::{name_length, system_name_length};
 use crate::numbers::{number_length, one_step_length, time_length};
 use crate::separators::separator_length;
 use crate::strings::string_length;
-use crate::tables::{kind_in, kind_of_name, signs, spelled_length};
+use crate::tables::{kind_in, kind_of_name, sign_length, signs};
 use sv_digits::read_literal;
 use sv_tree::{Kind, Piece, Refused};
 
@@ -66,7 +66,7 @@ fn token_at(s: &[u8]) -> (usize, Option<Kind>, bool)
     let time = time_length(s);
     let step = one_step_length(s);
     let string = string_length(s, true);
-    let sign = spelled_length(signs(), s);
+    let sign = sign_length(s);
     let n = name.max(system.max(number.max(time.max(step.max(string.max(sign))))));
     if n == 0 {
         return (0, None, false);

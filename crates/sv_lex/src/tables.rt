@@ -5,6 +5,7 @@ ghost use Rattle.std.specs.List.{list_any};
 ghost use Rattle.sv_tree.specs.Longest.{longest};
 ghost use Rattle.sv_tree.specs.Tokens.{is_word, is_spelled, spelled, kind_of_name, plain_word, words, signs, unused};
 
+use crate::letters::is_word_part;
 use sv_tree::{Kind, SIGNS, UNUSED, WORDS};
 
 /// The length of a word, where it stands at the front.
@@ -64,6 +65,23 @@ pub fn signs() -> &'static [(&'static str, Kind)]
     ensures { map (λ x. (x.0.now, x.1)) result.now ≡ signs }
 {
     &SIGNS
+}
+
+/// The length of the longest operator at the front, or 0. None begins with a letter, a digit or `_`.
+#[tactic(auto, using(crate::proofs::Fronts::longest_short, crate::proofs::SignLaws::no_sign))]
+pub fn sign_length(s: &[u8]) -> usize
+    ensures value { result ≡ longest (is_spelled signs) s.now }
+    ensures within { result ≤ length s.now }
+{
+    match s {
+        [c, ..] => {
+            if is_word_part(*c) {
+                return 0;
+            }
+            spelled_length(signs(), s)
+        }
+        [] => 0,
+    }
 }
 
 /// The reserved words that no rule accepts.

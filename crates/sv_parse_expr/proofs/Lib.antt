@@ -1,5 +1,6 @@
 pub mod Loops
 pub mod Parts
+pub mod ArgumentLaws
 pub mod Links
 pub mod Prims
 pub mod Calls

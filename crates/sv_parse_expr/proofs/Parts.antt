@@ -84,14 +84,6 @@ suffixes_depth_push (Part' at w p a q b ∷ ss) s n h = ap (larger (suc (larger 
 
 -- ---- what is known of lists of expressions and of operands
 
-pub inner_exprs_first : (info Production Value heads need inner_exprs).first ≡ expr_first
-unfolding inner_exprs
-inner_exprs_first = refl
-
-pub inner_exprs_low : least Production Value heads need inner_exprs ≡ 1
-unfolding inner_exprs
-inner_exprs_low = refl
-
 pub prim_low : least Production Value heads need prim ≡ 0
 unfolding prim plain_prim word_cast number time text null_ dollar group named post_rest this this_post super_call system_call braces closed cast suffixes suffix_code select comma_expr
 prim_low = refl

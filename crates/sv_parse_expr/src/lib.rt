@@ -26,14 +26,14 @@ mod words;
 
 pub use begins::{begins_cast, begins_expr, begins_post};
 pub use fault::{SyntaxFault, SyntaxKind};
-pub use found::{Found, FoundBracket, FoundSuffixes, post_of};
+pub use found::{Found, FoundBracket, FoundExprs, FoundSuffixes, post_of};
 pub use lists::with_first_item;
 pub use names::{name, name_of, named_root, scope};
-pub use reader::{arguments, choose, expression, operators};
+pub use reader::{arguments, choose, expression, listed, operators};
 pub use reading::{ReadError, code_of, expect, is_next, next_kind};
 pub use target::{
     Arguments, FoundArguments, FoundRooted, FoundTarget, call, lval, maybe_arguments, named_post,
     suffixes, super_post, targets, this_post,
 };
 pub use whole::{expr, fault_of};
-pub use words::{atom_word, part_word, vector_word};
+pub use words::{atom_word, cast_word, part_word, vector_word};

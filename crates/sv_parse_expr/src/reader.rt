@@ -8,7 +8,8 @@ ghost use Rattle.sv_tree.specs.Codes.{toks};
 ghost use Rattle.sv_tree.specs.Depth.{depth, exprs_depth, suffixes_depth};
 ghost use Rattle.sv_tree.specs.View as view;
 ghost use Rattle.sv_tree.specs.Expr as tree;
-ghost use Rattle.sv_tree.specs.Grammar.{reads, expr_first};
+ghost use Rattle.sv_tree.specs.Forms.{comma, commas, list};
+ghost use Rattle.sv_tree.specs.Grammar.{reads};
 ghost use Rattle.sv_tree.specs.ExprGrammar as grammar;
 ghost use Rattle.sv_parse_expr.specs.Outcome.{Gives};
 ghost use Rattle.sv_parse_expr.specs.Views.{found, found_exprs, found_bracket, found_suffix, found_list, found_suffixes, found_post};
@@ -93,9 +94,65 @@ fn exprs<'a>(
 
 // ---- what follows a name
 
-/// Expressions in brackets.
+/// `"," expr`, no deeper than what stands around it.
 #[cycle(expr)]
-#[tactic(auto, using(crate::proofs::Parts::exprs_are_listed, crate::proofs::Parts::reach_one, crate::proofs::Parts::inner_exprs_first, crate::proofs::Parts::inner_exprs_low), unfolding(sv_tree::specs::ExprGrammar::arguments))]
+fn comma_listed<'a>(
+    alloc: Global,
+    tokens: &'a [Token],
+    budget: u32,
+) -> Result<Found<'a>, ReadError<'a>>
+    requires { budget ≤ 200 }
+    ensures reads { Gives found result (reads budget (comma grammar.expr) (toks tokens.now)) }
+    ensures depth { IfOk result (λ f. (f.depth ≡ depth (view.expr f.tree)) × (f.depth ≤ budget)) }
+{
+    let (_, rest) = expect(tokens, Kind::Comma)?;
+    let found = expression(alloc, rest, budget)?;
+    Ok(found)
+}
+
+/// `{"," expr}`, no deeper than what stands around them.
+#[cycle(expr)]
+#[tactic(auto, using(crate::proofs::ArgumentLaws::listed_are, crate::proofs::ArgumentLaws::listed_stop))]
+fn more_listed<'a>(
+    alloc: Global,
+    tokens: &'a [Token],
+    budget: u32,
+) -> Result<FoundExprs<'a>, ReadError<'a>>
+    requires { budget ≤ 200 }
+    ensures reads { Gives found_exprs result (reads budget (commas grammar.expr) (toks tokens.now)) }
+    ensures depth { IfOk result (λ f. (f.depth ≡ exprs_depth (view.expr_list f.list.items)) × (f.depth ≤ budget)) }
+{
+    let mut list = Vec::new(alloc);
+    let mut depth = 0;
+    let mut rest = tokens;
+    'commas: while is_next(rest, Kind::Comma) {
+        let found = comma_listed(alloc, rest, budget)?;
+        depth = larger(depth, found.depth);
+        list.push(found.tree)?;
+        rest = found.rest;
+    }
+    Ok(FoundExprs { list, depth, rest })
+}
+
+/// `list(expr)`, no deeper than what stands around it.
+#[cycle(expr)]
+pub fn listed<'a>(
+    alloc: Global,
+    tokens: &'a [Token],
+    budget: u32,
+) -> Result<FoundExprs<'a>, ReadError<'a>>
+    requires { budget ≤ 200 }
+    ensures reads { Gives found_exprs result (reads budget (list grammar.expr) (toks tokens.now)) }
+    ensures depth { IfOk result (λ f. (f.depth ≡ exprs_depth (view.expr_list f.list.items)) × (f.depth < budget + 1)) }
+{
+    let Found { tree, depth, rest } = expression(alloc, tokens, budget)?;
+    let others = more_listed(alloc, rest, budget)?;
+    with_first(tree, depth, others)
+}
+
+/// Expressions in brackets; the pair of brackets counts for what stands around it.
+#[cycle(expr)]
+#[tactic(auto, using(crate::proofs::Parts::exprs_are_listed, crate::proofs::ArgumentLaws::some_listed, crate::proofs::ArgumentLaws::none_listed), unfolding(sv_tree::specs::ExprGrammar::arguments))]
 pub fn arguments<'a>(
     alloc: Global,
     tokens: &'a [Token],
@@ -115,10 +172,7 @@ pub fn arguments<'a>(
             rest,
         });
     }
-    if budget == 0 {
-        return Err(ReadError::Deep(rest));
-    }
-    let FoundExprs { list, depth, rest } = exprs(alloc, rest, budget)?;
+    let FoundExprs { list, depth, rest } = listed(alloc, rest, budget)?;
     let (_, rest) = expect(rest, Kind::RightParenthesis)?;
     Ok(FoundBracket {
         at: open.at,

@@ -23,7 +23,7 @@ order Named = 1
 order Unnamed = 0
 
 passes : (n : Production) → fine Production Value heads need (table n) ≡ true
-unfolding comma_expr inner_exprs select arguments suffix suffixes post_rest named_post this_post super_post post targets lval system_call super_call call closed cast number time text null_ dollar group named this repeated braces word_cast plain_prim prim prefixed unary levels expr_over expr plain_unary plain_expr cast_rest range enum_item enum vector_type atom_type mailbox_type word_type named_type type unnamed_implied named_name typed_name dim_inside dim new_rest init declarator_rest declarator declarators more_declarators life_decl var_decl plain_decl word_decl named_decl_rest amount delay cycles_amount event_part next_event_part event_parts event_list event assign_now assign_later assign_by step_after assign_end post_end named_rest super_rest super_statement early_rest early block_items block_rest fork_rest block fork else_ if_rest if_ default_arm labelled_arm arm case_rest case_ step_rest step_before step first_rest unnamed_lval first_part for_ while_ do_rest do_ repeat forever foreach after at_event cycles wait_rest wait ignore return_ null_statement step_statement system_statement this_statement targets_statement disable trigger break_ continue_ unnamed body named_statement stmt
+unfolding comma_expr inner_exprs select suffix suffixes post_rest named_post this_post super_post post targets lval system_call super_call call closed cast number time text null_ dollar group named this repeated braces word_cast plain_prim prim prefixed unary levels expr_over expr plain_unary plain_expr cast_rest arguments range enum_item enum vector_type atom_type mailbox_type word_type named_type type unnamed_implied named_name typed_name dim_inside dim new_rest init declarator_rest declarator declarators more_declarators life_decl var_decl plain_decl word_decl named_decl_rest amount delay cycles_amount event_part next_event_part event_parts event_list event assign_now assign_later assign_by step_after assign_end post_end named_rest super_rest super_statement early_rest early block_items block_rest fork_rest block fork else_ if_rest if_ default_arm labelled_arm arm case_rest case_ step_rest step_before step first_rest unnamed_lval first_part for_ while_ do_rest do_ repeat forever foreach after at_event cycles wait_rest wait ignore return_ null_statement step_statement system_statement this_statement targets_statement disable trigger break_ continue_ unnamed body named_statement stmt
 passes Expression = refl
 passes (Level zero) = refl
 passes (Level (suc zero)) = refl
@@ -45,7 +45,7 @@ passes Named = refl
 passes Unnamed = refl
 
 begins : (n : Production) → subset (info Production Value heads need (table n)).first (heads n).first ≡ true
-unfolding comma_expr inner_exprs select arguments suffix suffixes post_rest named_post this_post super_post post targets lval system_call super_call call closed cast number time text null_ dollar group named this repeated braces word_cast plain_prim prim prefixed unary levels expr_over expr plain_unary plain_expr cast_rest range enum_item enum vector_type atom_type mailbox_type word_type named_type type unnamed_implied named_name typed_name dim_inside dim new_rest init declarator_rest declarator declarators more_declarators life_decl var_decl plain_decl word_decl named_decl_rest amount delay cycles_amount event_part next_event_part event_parts event_list event assign_now assign_later assign_by step_after assign_end post_end named_rest super_rest super_statement early_rest early block_items block_rest fork_rest block fork else_ if_rest if_ default_arm labelled_arm arm case_rest case_ step_rest step_before step first_rest unnamed_lval first_part for_ while_ do_rest do_ repeat forever foreach after at_event cycles wait_rest wait ignore return_ null_statement step_statement system_statement this_statement targets_statement disable trigger break_ continue_ unnamed body named_statement stmt
+unfolding comma_expr inner_exprs select suffix suffixes post_rest named_post this_post super_post post targets lval system_call super_call call closed cast number time text null_ dollar group named this repeated braces word_cast plain_prim prim prefixed unary levels expr_over expr plain_unary plain_expr cast_rest arguments range enum_item enum vector_type atom_type mailbox_type word_type named_type type unnamed_implied named_name typed_name dim_inside dim new_rest init declarator_rest declarator declarators more_declarators life_decl var_decl plain_decl word_decl named_decl_rest amount delay cycles_amount event_part next_event_part event_parts event_list event assign_now assign_later assign_by step_after assign_end post_end named_rest super_rest super_statement early_rest early block_items block_rest fork_rest block fork else_ if_rest if_ default_arm labelled_arm arm case_rest case_ step_rest step_before step first_rest unnamed_lval first_part for_ while_ do_rest do_ repeat forever foreach after at_event cycles wait_rest wait ignore return_ null_statement step_statement system_statement this_statement targets_statement disable trigger break_ continue_ unnamed body named_statement stmt
 begins Expression = refl
 begins (Level zero) = refl
 begins (Level (suc zero)) = refl
@@ -67,7 +67,7 @@ begins Named = refl
 begins Unnamed = refl
 
 begun : (n : Production) → subset (heads n).first (info Production Value heads need (table n)).first ≡ true
-unfolding comma_expr inner_exprs select arguments suffix suffixes post_rest named_post this_post super_post post targets lval system_call super_call call closed cast number time text null_ dollar group named this repeated braces word_cast plain_prim prim prefixed unary levels expr_over expr plain_unary plain_expr cast_rest range enum_item enum vector_type atom_type mailbox_type word_type named_type type unnamed_implied named_name typed_name dim_inside dim new_rest init declarator_rest declarator declarators more_declarators life_decl var_decl plain_decl word_decl named_decl_rest amount delay cycles_amount event_part next_event_part event_parts event_list event assign_now assign_later assign_by step_after assign_end post_end named_rest super_rest super_statement early_rest early block_items block_rest fork_rest block fork else_ if_rest if_ default_arm labelled_arm arm case_rest case_ step_rest step_before step first_rest unnamed_lval first_part for_ while_ do_rest do_ repeat forever foreach after at_event cycles wait_rest wait ignore return_ null_statement step_statement system_statement this_statement targets_statement disable trigger break_ continue_ unnamed body named_statement stmt
+unfolding comma_expr inner_exprs select suffix suffixes post_rest named_post this_post super_post post targets lval system_call super_call call closed cast number time text null_ dollar group named this repeated braces word_cast plain_prim prim prefixed unary levels expr_over expr plain_unary plain_expr cast_rest arguments range enum_item enum vector_type atom_type mailbox_type word_type named_type type unnamed_implied named_name typed_name dim_inside dim new_rest init declarator_rest declarator declarators more_declarators life_decl var_decl plain_decl word_decl named_decl_rest amount delay cycles_amount event_part next_event_part event_parts event_list event assign_now assign_later assign_by step_after assign_end post_end named_rest super_rest super_statement early_rest early block_items block_rest fork_rest block fork else_ if_rest if_ default_arm labelled_arm arm case_rest case_ step_rest step_before step first_rest unnamed_lval first_part for_ while_ do_rest do_ repeat forever foreach after at_event cycles wait_rest wait ignore return_ null_statement step_statement system_statement this_statement targets_statement disable trigger break_ continue_ unnamed body named_statement stmt
 begun Expression = refl
 begun (Level zero) = refl
 begun (Level (suc zero)) = refl
@@ -89,7 +89,7 @@ begun Named = refl
 begun Unnamed = refl
 
 continues : (n : Production) → subset (info Production Value heads need (table n)).cont (heads n).cont ≡ true
-unfolding comma_expr inner_exprs select arguments suffix suffixes post_rest named_post this_post super_post post targets lval system_call super_call call closed cast number time text null_ dollar group named this repeated braces word_cast plain_prim prim prefixed unary levels expr_over expr plain_unary plain_expr cast_rest range enum_item enum vector_type atom_type mailbox_type word_type named_type type unnamed_implied named_name typed_name dim_inside dim new_rest init declarator_rest declarator declarators more_declarators life_decl var_decl plain_decl word_decl named_decl_rest amount delay cycles_amount event_part next_event_part event_parts event_list event assign_now assign_later assign_by step_after assign_end post_end named_rest super_rest super_statement early_rest early block_items block_rest fork_rest block fork else_ if_rest if_ default_arm labelled_arm arm case_rest case_ step_rest step_before step first_rest unnamed_lval first_part for_ while_ do_rest do_ repeat forever foreach after at_event cycles wait_rest wait ignore return_ null_statement step_statement system_statement this_statement targets_statement disable trigger break_ continue_ unnamed body named_statement stmt
+unfolding comma_expr inner_exprs select suffix suffixes post_rest named_post this_post super_post post targets lval system_call super_call call closed cast number time text null_ dollar group named this repeated braces word_cast plain_prim prim prefixed unary levels expr_over expr plain_unary plain_expr cast_rest arguments range enum_item enum vector_type atom_type mailbox_type word_type named_type type unnamed_implied named_name typed_name dim_inside dim new_rest init declarator_rest declarator declarators more_declarators life_decl var_decl plain_decl word_decl named_decl_rest amount delay cycles_amount event_part next_event_part event_parts event_list event assign_now assign_later assign_by step_after assign_end post_end named_rest super_rest super_statement early_rest early block_items block_rest fork_rest block fork else_ if_rest if_ default_arm labelled_arm arm case_rest case_ step_rest step_before step first_rest unnamed_lval first_part for_ while_ do_rest do_ repeat forever foreach after at_event cycles wait_rest wait ignore return_ null_statement step_statement system_statement this_statement targets_statement disable trigger break_ continue_ unnamed body named_statement stmt
 continues Expression = refl
 continues (Level zero) = refl
 continues (Level (suc zero)) = refl
@@ -111,7 +111,7 @@ continues Named = refl
 continues Unnamed = refl
 
 empties : (n : Production) → (info Production Value heads need (table n)).null ≡ (heads n).null
-unfolding comma_expr inner_exprs select arguments suffix suffixes post_rest named_post this_post super_post post targets lval system_call super_call call closed cast number time text null_ dollar group named this repeated braces word_cast plain_prim prim prefixed unary levels expr_over expr plain_unary plain_expr cast_rest range enum_item enum vector_type atom_type mailbox_type word_type named_type type unnamed_implied named_name typed_name dim_inside dim new_rest init declarator_rest declarator declarators more_declarators life_decl var_decl plain_decl word_decl named_decl_rest amount delay cycles_amount event_part next_event_part event_parts event_list event assign_now assign_later assign_by step_after assign_end post_end named_rest super_rest super_statement early_rest early block_items block_rest fork_rest block fork else_ if_rest if_ default_arm labelled_arm arm case_rest case_ step_rest step_before step first_rest unnamed_lval first_part for_ while_ do_rest do_ repeat forever foreach after at_event cycles wait_rest wait ignore return_ null_statement step_statement system_statement this_statement targets_statement disable trigger break_ continue_ unnamed body named_statement stmt
+unfolding comma_expr inner_exprs select suffix suffixes post_rest named_post this_post super_post post targets lval system_call super_call call closed cast number time text null_ dollar group named this repeated braces word_cast plain_prim prim prefixed unary levels expr_over expr plain_unary plain_expr cast_rest arguments range enum_item enum vector_type atom_type mailbox_type word_type named_type type unnamed_implied named_name typed_name dim_inside dim new_rest init declarator_rest declarator declarators more_declarators life_decl var_decl plain_decl word_decl named_decl_rest amount delay cycles_amount event_part next_event_part event_parts event_list event assign_now assign_later assign_by step_after assign_end post_end named_rest super_rest super_statement early_rest early block_items block_rest fork_rest block fork else_ if_rest if_ default_arm labelled_arm arm case_rest case_ step_rest step_before step first_rest unnamed_lval first_part for_ while_ do_rest do_ repeat forever foreach after at_event cycles wait_rest wait ignore return_ null_statement step_statement system_statement this_statement targets_statement disable trigger break_ continue_ unnamed body named_statement stmt
 empties Expression = refl
 empties (Level zero) = refl
 empties (Level (suc zero)) = refl
@@ -133,7 +133,7 @@ empties Named = refl
 empties Unnamed = refl
 
 needs : (n : Production) → least Production Value heads need (table n) ≡ need n
-unfolding comma_expr inner_exprs select arguments suffix suffixes post_rest named_post this_post super_post post targets lval system_call super_call call closed cast number time text null_ dollar group named this repeated braces word_cast plain_prim prim prefixed unary levels expr_over expr plain_unary plain_expr cast_rest range enum_item enum vector_type atom_type mailbox_type word_type named_type type unnamed_implied named_name typed_name dim_inside dim new_rest init declarator_rest declarator declarators more_declarators life_decl var_decl plain_decl word_decl named_decl_rest amount delay cycles_amount event_part next_event_part event_parts event_list event assign_now assign_later assign_by step_after assign_end post_end named_rest super_rest super_statement early_rest early block_items block_rest fork_rest block fork else_ if_rest if_ default_arm labelled_arm arm case_rest case_ step_rest step_before step first_rest unnamed_lval first_part for_ while_ do_rest do_ repeat forever foreach after at_event cycles wait_rest wait ignore return_ null_statement step_statement system_statement this_statement targets_statement disable trigger break_ continue_ unnamed body named_statement stmt
+unfolding comma_expr inner_exprs select suffix suffixes post_rest named_post this_post super_post post targets lval system_call super_call call closed cast number time text null_ dollar group named this repeated braces word_cast plain_prim prim prefixed unary levels expr_over expr plain_unary plain_expr cast_rest arguments range enum_item enum vector_type atom_type mailbox_type word_type named_type type unnamed_implied named_name typed_name dim_inside dim new_rest init declarator_rest declarator declarators more_declarators life_decl var_decl plain_decl word_decl named_decl_rest amount delay cycles_amount event_part next_event_part event_parts event_list event assign_now assign_later assign_by step_after assign_end post_end named_rest super_rest super_statement early_rest early block_items block_rest fork_rest block fork else_ if_rest if_ default_arm labelled_arm arm case_rest case_ step_rest step_before step first_rest unnamed_lval first_part for_ while_ do_rest do_ repeat forever foreach after at_event cycles wait_rest wait ignore return_ null_statement step_statement system_statement this_statement targets_statement disable trigger break_ continue_ unnamed body named_statement stmt
 needs Expression = refl
 needs (Level zero) = refl
 needs (Level (suc zero)) = refl
@@ -155,7 +155,7 @@ needs Named = refl
 needs Unnamed = refl
 
 led : (n : Production) → leads Production Value heads need (λ m. reach (suc (order m)) (order n)) (table n) ≡ true
-unfolding comma_expr inner_exprs select arguments suffix suffixes post_rest named_post this_post super_post post targets lval system_call super_call call closed cast number time text null_ dollar group named this repeated braces word_cast plain_prim prim prefixed unary levels expr_over expr plain_unary plain_expr cast_rest range enum_item enum vector_type atom_type mailbox_type word_type named_type type unnamed_implied named_name typed_name dim_inside dim new_rest init declarator_rest declarator declarators more_declarators life_decl var_decl plain_decl word_decl named_decl_rest amount delay cycles_amount event_part next_event_part event_parts event_list event assign_now assign_later assign_by step_after assign_end post_end named_rest super_rest super_statement early_rest early block_items block_rest fork_rest block fork else_ if_rest if_ default_arm labelled_arm arm case_rest case_ step_rest step_before step first_rest unnamed_lval first_part for_ while_ do_rest do_ repeat forever foreach after at_event cycles wait_rest wait ignore return_ null_statement step_statement system_statement this_statement targets_statement disable trigger break_ continue_ unnamed body named_statement stmt
+unfolding comma_expr inner_exprs select suffix suffixes post_rest named_post this_post super_post post targets lval system_call super_call call closed cast number time text null_ dollar group named this repeated braces word_cast plain_prim prim prefixed unary levels expr_over expr plain_unary plain_expr cast_rest arguments range enum_item enum vector_type atom_type mailbox_type word_type named_type type unnamed_implied named_name typed_name dim_inside dim new_rest init declarator_rest declarator declarators more_declarators life_decl var_decl plain_decl word_decl named_decl_rest amount delay cycles_amount event_part next_event_part event_parts event_list event assign_now assign_later assign_by step_after assign_end post_end named_rest super_rest super_statement early_rest early block_items block_rest fork_rest block fork else_ if_rest if_ default_arm labelled_arm arm case_rest case_ step_rest step_before step first_rest unnamed_lval first_part for_ while_ do_rest do_ repeat forever foreach after at_event cycles wait_rest wait ignore return_ null_statement step_statement system_statement this_statement targets_statement disable trigger break_ continue_ unnamed body named_statement stmt
 led Expression = refl
 led (Level zero) = refl
 led (Level (suc zero)) = refl
@@ -187,14 +187,14 @@ inner_is (suc d) h n ts = rw sub-one refl
 -- ---- the whole file
 
 pub file_fine : fine Production Value heads need file ≡ true
-unfolding comma_expr inner_exprs select arguments suffix suffixes post_rest named_post this_post super_post post targets lval system_call super_call call closed cast number time text null_ dollar group named this repeated braces word_cast plain_prim prim prefixed unary levels expr_over expr plain_unary plain_expr cast_rest range enum_item enum vector_type atom_type mailbox_type word_type named_type type unnamed_implied named_name typed_name dim_inside dim new_rest init declarator_rest declarator declarators more_declarators life_decl var_decl plain_decl word_decl named_decl_rest amount delay cycles_amount event_part next_event_part event_parts event_list event assign_now assign_later assign_by step_after assign_end post_end named_rest super_rest super_statement early_rest early block_items block_rest fork_rest block fork else_ if_rest if_ default_arm labelled_arm arm case_rest case_ step_rest step_before step first_rest unnamed_lval first_part for_ while_ do_rest do_ repeat forever foreach after at_event cycles wait_rest wait ignore return_ null_statement step_statement system_statement this_statement targets_statement disable trigger break_ continue_ unnamed body named_statement stmt param_item param unit_param unit_params directed_port plain_port next_port ports typedef_rest typedef argument called function_head task_head head routine_name routine_end routine skew_rest skew default_skew output_side input_side sides default_skews clocking_item clocking_rest plain_clocking default_rest default_clocking clocking automatic_decl class_decl member pure_method qualified class_item class_rest virtual_class plain_class class named_items initial common named_decl program_item given dotted connection connections instance instances_rest decl_rest second_named valued_instances named_item_rest named_item net_item net_word net assign_item assign always module_item unit_head module_unit program_unit unit file unit_arguments
+unfolding comma_expr inner_exprs select suffix suffixes post_rest named_post this_post super_post post targets lval system_call super_call call closed cast number time text null_ dollar group named this repeated braces word_cast plain_prim prim prefixed unary levels expr_over expr plain_unary plain_expr cast_rest arguments range enum_item enum vector_type atom_type mailbox_type word_type named_type type unnamed_implied named_name typed_name dim_inside dim new_rest init declarator_rest declarator declarators more_declarators life_decl var_decl plain_decl word_decl named_decl_rest amount delay cycles_amount event_part next_event_part event_parts event_list event assign_now assign_later assign_by step_after assign_end post_end named_rest super_rest super_statement early_rest early block_items block_rest fork_rest block fork else_ if_rest if_ default_arm labelled_arm arm case_rest case_ step_rest step_before step first_rest unnamed_lval first_part for_ while_ do_rest do_ repeat forever foreach after at_event cycles wait_rest wait ignore return_ null_statement step_statement system_statement this_statement targets_statement disable trigger break_ continue_ unnamed body named_statement stmt param_item param unit_param unit_params directed_port plain_port next_port ports typedef_rest typedef argument called function_head task_head head routine_name routine_end routine skew_rest skew default_skew output_side input_side sides default_skews clocking_item clocking_rest plain_clocking default_rest default_clocking clocking automatic_decl class_decl member pure_method qualified class_item class_rest virtual_class plain_class class named_items initial common named_decl program_item given dotted connection connections instance instances_rest decl_rest second_named valued_instances named_item_rest named_item net_item net_word net assign_item assign always module_item unit_head module_unit program_unit unit file unit_arguments
 file_fine = refl
 
 -- no text of a file goes on past its end
 pub file_nil : mem 0 (info Production Value heads need file).cont ≡ false
-unfolding comma_expr inner_exprs select arguments suffix suffixes post_rest named_post this_post super_post post targets lval system_call super_call call closed cast number time text null_ dollar group named this repeated braces word_cast plain_prim prim prefixed unary levels expr_over expr plain_unary plain_expr cast_rest range enum_item enum vector_type atom_type mailbox_type word_type named_type type unnamed_implied named_name typed_name dim_inside dim new_rest init declarator_rest declarator declarators more_declarators life_decl var_decl plain_decl word_decl named_decl_rest amount delay cycles_amount event_part next_event_part event_parts event_list event assign_now assign_later assign_by step_after assign_end post_end named_rest super_rest super_statement early_rest early block_items block_rest fork_rest block fork else_ if_rest if_ default_arm labelled_arm arm case_rest case_ step_rest step_before step first_rest unnamed_lval first_part for_ while_ do_rest do_ repeat forever foreach after at_event cycles wait_rest wait ignore return_ null_statement step_statement system_statement this_statement targets_statement disable trigger break_ continue_ unnamed body named_statement stmt param_item param unit_param unit_params directed_port plain_port next_port ports typedef_rest typedef argument called function_head task_head head routine_name routine_end routine skew_rest skew default_skew output_side input_side sides default_skews clocking_item clocking_rest plain_clocking default_rest default_clocking clocking automatic_decl class_decl member pure_method qualified class_item class_rest virtual_class plain_class class named_items initial common named_decl program_item given dotted connection connections instance instances_rest decl_rest second_named valued_instances named_item_rest named_item net_item net_word net assign_item assign always module_item unit_head module_unit program_unit unit file unit_arguments
+unfolding comma_expr inner_exprs select suffix suffixes post_rest named_post this_post super_post post targets lval system_call super_call call closed cast number time text null_ dollar group named this repeated braces word_cast plain_prim prim prefixed unary levels expr_over expr plain_unary plain_expr cast_rest arguments range enum_item enum vector_type atom_type mailbox_type word_type named_type type unnamed_implied named_name typed_name dim_inside dim new_rest init declarator_rest declarator declarators more_declarators life_decl var_decl plain_decl word_decl named_decl_rest amount delay cycles_amount event_part next_event_part event_parts event_list event assign_now assign_later assign_by step_after assign_end post_end named_rest super_rest super_statement early_rest early block_items block_rest fork_rest block fork else_ if_rest if_ default_arm labelled_arm arm case_rest case_ step_rest step_before step first_rest unnamed_lval first_part for_ while_ do_rest do_ repeat forever foreach after at_event cycles wait_rest wait ignore return_ null_statement step_statement system_statement this_statement targets_statement disable trigger break_ continue_ unnamed body named_statement stmt param_item param unit_param unit_params directed_port plain_port next_port ports typedef_rest typedef argument called function_head task_head head routine_name routine_end routine skew_rest skew default_skew output_side input_side sides default_skews clocking_item clocking_rest plain_clocking default_rest default_clocking clocking automatic_decl class_decl member pure_method qualified class_item class_rest virtual_class plain_class class named_items initial common named_decl program_item given dotted connection connections instance instances_rest decl_rest second_named valued_instances named_item_rest named_item net_item net_word net assign_item assign always module_item unit_head module_unit program_unit unit file unit_arguments
 file_nil = refl
 
 pub file_least : least Production Value heads need file ≡ 0
-unfolding comma_expr inner_exprs select arguments suffix suffixes post_rest named_post this_post super_post post targets lval system_call super_call call closed cast number time text null_ dollar group named this repeated braces word_cast plain_prim prim prefixed unary levels expr_over expr plain_unary plain_expr cast_rest range enum_item enum vector_type atom_type mailbox_type word_type named_type type unnamed_implied named_name typed_name dim_inside dim new_rest init declarator_rest declarator declarators more_declarators life_decl var_decl plain_decl word_decl named_decl_rest amount delay cycles_amount event_part next_event_part event_parts event_list event assign_now assign_later assign_by step_after assign_end post_end named_rest super_rest super_statement early_rest early block_items block_rest fork_rest block fork else_ if_rest if_ default_arm labelled_arm arm case_rest case_ step_rest step_before step first_rest unnamed_lval first_part for_ while_ do_rest do_ repeat forever foreach after at_event cycles wait_rest wait ignore return_ null_statement step_statement system_statement this_statement targets_statement disable trigger break_ continue_ unnamed body named_statement stmt param_item param unit_param unit_params directed_port plain_port next_port ports typedef_rest typedef argument called function_head task_head head routine_name routine_end routine skew_rest skew default_skew output_side input_side sides default_skews clocking_item clocking_rest plain_clocking default_rest default_clocking clocking automatic_decl class_decl member pure_method qualified class_item class_rest virtual_class plain_class class named_items initial common named_decl program_item given dotted connection connections instance instances_rest decl_rest second_named valued_instances named_item_rest named_item net_item net_word net assign_item assign always module_item unit_head module_unit program_unit unit file unit_arguments
+unfolding comma_expr inner_exprs select suffix suffixes post_rest named_post this_post super_post post targets lval system_call super_call call closed cast number time text null_ dollar group named this repeated braces word_cast plain_prim prim prefixed unary levels expr_over expr plain_unary plain_expr cast_rest arguments range enum_item enum vector_type atom_type mailbox_type word_type named_type type unnamed_implied named_name typed_name dim_inside dim new_rest init declarator_rest declarator declarators more_declarators life_decl var_decl plain_decl word_decl named_decl_rest amount delay cycles_amount event_part next_event_part event_parts event_list event assign_now assign_later assign_by step_after assign_end post_end named_rest super_rest super_statement early_rest early block_items block_rest fork_rest block fork else_ if_rest if_ default_arm labelled_arm arm case_rest case_ step_rest step_before step first_rest unnamed_lval first_part for_ while_ do_rest do_ repeat forever foreach after at_event cycles wait_rest wait ignore return_ null_statement step_statement system_statement this_statement targets_statement disable trigger break_ continue_ unnamed body named_statement stmt param_item param unit_param unit_params directed_port plain_port next_port ports typedef_rest typedef argument called function_head task_head head routine_name routine_end routine skew_rest skew default_skew output_side input_side sides default_skews clocking_item clocking_rest plain_clocking default_rest default_clocking clocking automatic_decl class_decl member pure_method qualified class_item class_rest virtual_class plain_class class named_items initial common named_decl program_item given dotted connection connections instance instances_rest decl_rest second_named valued_instances named_item_rest named_item net_item net_word net assign_item assign always module_item unit_head module_unit program_unit unit file unit_arguments
 file_least = refl

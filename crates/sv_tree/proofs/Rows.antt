@@ -14,7 +14,7 @@ use Rattle.sv_tree.specs.Longest.{longest}
 use Rattle.sv_tree.specs.Tokens.{spelled, is_one, is_after, is_name, is_system_name, is_plain_number, is_filling_number, is_decimal_body, is_base, is_signed_base, is_based_number, is_size_rest, is_sized_number, is_number, is_unit, is_time_rest, is_time, is_one_step, is_string_rest, is_string, is_spelled, words, signs, unused, plain_word, kind_of_name, kind_of}
 use Rattle.sv_tree.specs.Directives.{after_word, after_some_spaces, after_end_of_word, power_at, magnitude_at, unit_at, scale_at, timescale_at, nettype_at}
 use Rattle.sv_tree.specs.Lexing.{is_blank, is_line_comment, is_comment_rest, is_comment, is_separator, is_token, no_token, token_piece, directive_piece, piece_at, after, start, with_piece, reading, whole, lex_fault}
-use Rattle.sv_tree.specs.ExprGrammar.{comma_expr, inner_exprs, select, arguments, suffix, suffixes, post_rest, named_post, this_post, super_post, post, targets, lval, system_call, super_call, call, closed, cast, number, time, text, null_, dollar, group, named, this, repeated, braces, word_cast, plain_prim, prim, prefixed, unary, levels, expr_over, expr, plain_unary, plain_expr, cast_rest}
+use Rattle.sv_tree.specs.ExprGrammar.{comma_expr, inner_exprs, select, suffix, suffixes, post_rest, named_post, this_post, super_post, post, targets, lval, system_call, super_call, call, closed, cast, number, time, text, null_, dollar, group, named, this, repeated, braces, word_cast, plain_prim, prim, prefixed, unary, levels, expr_over, expr, plain_unary, plain_expr, cast_rest, arguments}
 use Rattle.sv_tree.specs.TypeGrammar.{range, enum_item, enum, vector_type, atom_type, mailbox_type, word_type, named_type, type, unnamed_implied, named_name, typed_name, dim_inside, dim, new_rest, init, declarator_rest, declarator, declarators, more_declarators, life_decl, var_decl, plain_decl, word_decl, named_decl_rest}
 use Rattle.sv_tree.specs.StmtGrammar.{amount, delay, cycles_amount, event_part, next_event_part, event_parts, event_list, event, assign_now, assign_later, assign_by, step_after, assign_end, post_end, named_rest, super_rest, super_statement, early_rest, early, block_items, block_rest, fork_rest, block, fork, else_, if_rest, if_, default_arm, labelled_arm, arm, case_rest, case_, step_rest, step_before, step, first_rest, unnamed_lval, first_part, for_, while_, do_rest, do_, repeat, forever, foreach, after as after_delay, at_event, cycles, wait_rest, wait, ignore, return_, null_statement, step_statement, system_statement, this_statement, targets_statement, disable, trigger, break_, continue_, unnamed, body, named_statement, stmt}
 use Rattle.sv_tree.specs.UnitGrammar.{param_item, param, unit_param, unit_params, directed_port, plain_port, next_port, ports, typedef_rest, typedef, argument, arguments as unit_arguments, called, function_head, task_head, head, routine_name, routine_end, routine, skew_rest, skew, default_skew, output_side, input_side, sides, default_skews, clocking_item, clocking_rest, plain_clocking, default_rest, default_clocking, clocking, automatic_decl, class_decl, member, pure_method, qualified, class_item, class_rest, virtual_class, plain_class, class, named_items, initial, common, named_decl, program_item, given, dotted, connection, connections, instance, instances_rest, decl_rest, second_named, valued_instances, named_item_rest, named_item, net_item, net_word, net, assign_item, assign, always, module_item, unit_head, module_unit, program_unit, unit, file}
@@ -75,7 +75,7 @@ files =
     ([], All_read) ∷ []
 
 file_rows : map (λ x. outcome 200 file x.0) files ≡ map (λ x. x.1) files
-unfolding longest spelled is_one is_after is_name is_system_name is_plain_number is_filling_number is_decimal_body is_base is_signed_base is_based_number is_size_rest is_sized_number is_number is_unit is_time_rest is_time is_one_step is_string_rest is_string is_spelled words signs unused plain_word kind_of_name kind_of after_word after_some_spaces after_end_of_word power_at magnitude_at unit_at scale_at timescale_at nettype_at is_blank is_line_comment is_comment_rest is_comment is_separator is_token no_token token_piece directive_piece piece_at after start with_piece reading comma_expr inner_exprs select arguments suffix suffixes post_rest named_post this_post super_post post targets lval system_call super_call call closed cast number time text null_ dollar group named this repeated braces word_cast plain_prim prim prefixed unary levels expr_over expr plain_unary plain_expr cast_rest range enum_item enum vector_type atom_type mailbox_type word_type named_type type unnamed_implied named_name typed_name dim_inside dim new_rest init declarator_rest declarator declarators more_declarators life_decl var_decl plain_decl word_decl named_decl_rest amount delay cycles_amount event_part next_event_part event_parts event_list event assign_now assign_later assign_by step_after assign_end post_end named_rest super_rest super_statement early_rest early block_items block_rest fork_rest block fork else_ if_rest if_ default_arm labelled_arm arm case_rest case_ step_rest step_before step first_rest unnamed_lval first_part for_ while_ do_rest do_ repeat forever foreach after_delay at_event cycles wait_rest wait ignore return_ null_statement step_statement system_statement this_statement targets_statement disable trigger break_ continue_ unnamed body named_statement stmt param_item param unit_param unit_params directed_port plain_port next_port ports typedef_rest typedef argument unit_arguments called function_head task_head head routine_name routine_end routine skew_rest skew default_skew output_side input_side sides default_skews clocking_item clocking_rest plain_clocking default_rest default_clocking clocking automatic_decl class_decl member pure_method qualified class_item class_rest virtual_class plain_class class named_items initial common named_decl program_item given dotted connection connections instance instances_rest decl_rest second_named valued_instances named_item_rest named_item net_item net_word net assign_item assign always module_item unit_head module_unit program_unit unit file
+unfolding longest spelled is_one is_after is_name is_system_name is_plain_number is_filling_number is_decimal_body is_base is_signed_base is_based_number is_size_rest is_sized_number is_number is_unit is_time_rest is_time is_one_step is_string_rest is_string is_spelled words signs unused plain_word kind_of_name kind_of after_word after_some_spaces after_end_of_word power_at magnitude_at unit_at scale_at timescale_at nettype_at is_blank is_line_comment is_comment_rest is_comment is_separator is_token no_token token_piece directive_piece piece_at after start with_piece reading comma_expr inner_exprs select suffix suffixes post_rest named_post this_post super_post post targets lval system_call super_call call closed cast number time text null_ dollar group named this repeated braces word_cast plain_prim prim prefixed unary levels expr_over expr plain_unary plain_expr cast_rest arguments range enum_item enum vector_type atom_type mailbox_type word_type named_type type unnamed_implied named_name typed_name dim_inside dim new_rest init declarator_rest declarator declarators more_declarators life_decl var_decl plain_decl word_decl named_decl_rest amount delay cycles_amount event_part next_event_part event_parts event_list event assign_now assign_later assign_by step_after assign_end post_end named_rest super_rest super_statement early_rest early block_items block_rest fork_rest block fork else_ if_rest if_ default_arm labelled_arm arm case_rest case_ step_rest step_before step first_rest unnamed_lval first_part for_ while_ do_rest do_ repeat forever foreach after_delay at_event cycles wait_rest wait ignore return_ null_statement step_statement system_statement this_statement targets_statement disable trigger break_ continue_ unnamed body named_statement stmt param_item param unit_param unit_params directed_port plain_port next_port ports typedef_rest typedef argument unit_arguments called function_head task_head head routine_name routine_end routine skew_rest skew default_skew output_side input_side sides default_skews clocking_item clocking_rest plain_clocking default_rest default_clocking clocking automatic_decl class_decl member pure_method qualified class_item class_rest virtual_class plain_class class named_items initial common named_decl program_item given dotted connection connections instance instances_rest decl_rest second_named valued_instances named_item_rest named_item net_item net_word net assign_item assign always module_item unit_head module_unit program_unit unit file
 file_rows = refl
 
 -- ---- depth
@@ -90,10 +90,12 @@ statements =
     (codes "begin begin if (a) ; end end", Too_deep_at (at 1 13)) ∷
     (codes "begin begin a = 1; end end", All_read) ∷
     (codes "begin begin a = f(1); end end", Too_deep_at (at 1 18)) ∷
+    (codes "begin a = f(1, b); end", All_read) ∷
+    (codes "begin a = f(g()); end", Too_deep_at (at 1 14)) ∷
     (codes "begin a = (b); end", All_read) ∷
     (codes "begin a = ((b)); end", Too_deep_at (at 1 12)) ∷
     (codes "begin a = b + c + d; end", Too_deep_at (at 1 17)) ∷ []
 
 statement_rows : map (λ x. outcome 2 stmt x.0) statements ≡ map (λ x. x.1) statements
-unfolding longest spelled is_one is_after is_name is_system_name is_plain_number is_filling_number is_decimal_body is_base is_signed_base is_based_number is_size_rest is_sized_number is_number is_unit is_time_rest is_time is_one_step is_string_rest is_string is_spelled words signs unused plain_word kind_of_name kind_of after_word after_some_spaces after_end_of_word power_at magnitude_at unit_at scale_at timescale_at nettype_at is_blank is_line_comment is_comment_rest is_comment is_separator is_token no_token token_piece directive_piece piece_at after start with_piece reading comma_expr inner_exprs select arguments suffix suffixes post_rest named_post this_post super_post post targets lval system_call super_call call closed cast number time text null_ dollar group named this repeated braces word_cast plain_prim prim prefixed unary levels expr_over expr plain_unary plain_expr cast_rest range enum_item enum vector_type atom_type mailbox_type word_type named_type type unnamed_implied named_name typed_name dim_inside dim new_rest init declarator_rest declarator declarators more_declarators life_decl var_decl plain_decl word_decl named_decl_rest amount delay cycles_amount event_part next_event_part event_parts event_list event assign_now assign_later assign_by step_after assign_end post_end named_rest super_rest super_statement early_rest early block_items block_rest fork_rest block fork else_ if_rest if_ default_arm labelled_arm arm case_rest case_ step_rest step_before step first_rest unnamed_lval first_part for_ while_ do_rest do_ repeat forever foreach after_delay at_event cycles wait_rest wait ignore return_ null_statement step_statement system_statement this_statement targets_statement disable trigger break_ continue_ unnamed body named_statement stmt param_item param unit_param unit_params directed_port plain_port next_port ports typedef_rest typedef argument unit_arguments called function_head task_head head routine_name routine_end routine skew_rest skew default_skew output_side input_side sides default_skews clocking_item clocking_rest plain_clocking default_rest default_clocking clocking automatic_decl class_decl member pure_method qualified class_item class_rest virtual_class plain_class class named_items initial common named_decl program_item given dotted connection connections instance instances_rest decl_rest second_named valued_instances named_item_rest named_item net_item net_word net assign_item assign always module_item unit_head module_unit program_unit unit file
+unfolding longest spelled is_one is_after is_name is_system_name is_plain_number is_filling_number is_decimal_body is_base is_signed_base is_based_number is_size_rest is_sized_number is_number is_unit is_time_rest is_time is_one_step is_string_rest is_string is_spelled words signs unused plain_word kind_of_name kind_of after_word after_some_spaces after_end_of_word power_at magnitude_at unit_at scale_at timescale_at nettype_at is_blank is_line_comment is_comment_rest is_comment is_separator is_token no_token token_piece directive_piece piece_at after start with_piece reading comma_expr inner_exprs select suffix suffixes post_rest named_post this_post super_post post targets lval system_call super_call call closed cast number time text null_ dollar group named this repeated braces word_cast plain_prim prim prefixed unary levels expr_over expr plain_unary plain_expr cast_rest arguments range enum_item enum vector_type atom_type mailbox_type word_type named_type type unnamed_implied named_name typed_name dim_inside dim new_rest init declarator_rest declarator declarators more_declarators life_decl var_decl plain_decl word_decl named_decl_rest amount delay cycles_amount event_part next_event_part event_parts event_list event assign_now assign_later assign_by step_after assign_end post_end named_rest super_rest super_statement early_rest early block_items block_rest fork_rest block fork else_ if_rest if_ default_arm labelled_arm arm case_rest case_ step_rest step_before step first_rest unnamed_lval first_part for_ while_ do_rest do_ repeat forever foreach after_delay at_event cycles wait_rest wait ignore return_ null_statement step_statement system_statement this_statement targets_statement disable trigger break_ continue_ unnamed body named_statement stmt param_item param unit_param unit_params directed_port plain_port next_port ports typedef_rest typedef argument unit_arguments called function_head task_head head routine_name routine_end routine skew_rest skew default_skew output_side input_side sides default_skews clocking_item clocking_rest plain_clocking default_rest default_clocking clocking automatic_decl class_decl member pure_method qualified class_item class_rest virtual_class plain_class class named_items initial common named_decl program_item given dotted connection connections instance instances_rest decl_rest second_named valued_instances named_item_rest named_item net_item net_word net assign_item assign always module_item unit_head module_unit program_unit unit file
 statement_rows = refl

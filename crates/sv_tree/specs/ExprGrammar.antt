@@ -21,7 +21,7 @@ use Rattle.sv_tree.specs.declared.expr.CastType.{CastType}
 use Rattle.sv_tree.specs.declared.expr.CastType.TheVariants as cast_type
 use Rattle.sv_tree.specs.Depth.{depth}
 use Rattle.sv_tree.specs.Expr as tree
-use Rattle.sv_tree.specs.Forms.{Level, Arguments, Repeated, Target, Bracketed, C, Words, tok, word, chosen, ◌▸◌, ◌◂◌, both, three, then_, optional, otherwise, list, name_of, name, inner_expr, stacked, exprs, lvals}
+use Rattle.sv_tree.specs.Forms.{Level, Arguments, Repeated, Target, Bracketed, C, Words, tok, word, chosen, ◌▸◌, ◌◂◌, both, three, then_, optional, otherwise, list, list_or_none, name_of, name, inner_expr, stacked, exprs, lvals}
 
 -- ---- words
 
@@ -79,11 +79,6 @@ selected t e (Some p) rest = tree.Part t.at (chosen part_word.Down part_words p.
 -- sel
 unfoldable pub select : C (tree.Suffixes → tree.Suffixes)
 select = three selected (tok k.LeftBracket) inner_expr (optional bound ◂ k.RightBracket)
-
--- actuals = "(" [list(expr)] ")", a production of its own, one deeper
--- (the pair of brackets counts, with nothing in it too)
-unfoldable pub arguments : C Bracketed
-arguments = both (λ t es. record { at = t.at; list = exprs es }) (tok k.LeftParenthesis) (otherwise [] inner_exprs ◂ k.RightParenthesis)
 
 -- "." id | actuals | sel
 unfoldable pub suffix : C (tree.Suffixes → tree.Suffixes)
@@ -298,3 +293,10 @@ with_cast c e = e
 -- what follows a type word that is cast to: the type is put in later
 unfoldable pub cast_rest : C tree.Expr
 cast_rest = expr_over (Map (λ e. tree.Cast (cast_type.Text (record { file = 0; line = 0; col = 0 })) e) cast)
+
+-- ---- arguments
+
+-- actuals = "(" [list(expr)] ")", a production of its own, one deeper
+-- (the pair of brackets counts, with nothing in it too; what stands in it is no deeper than the pair)
+unfoldable pub arguments : C Bracketed
+arguments = both (λ t es. record { at = t.at; list = exprs es }) (tok k.LeftParenthesis) (list_or_none expr ◂ k.RightParenthesis)

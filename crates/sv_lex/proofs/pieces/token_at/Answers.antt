@@ -10,7 +10,7 @@ pub returns-then-n-eq0-clause-length : goal.returns-then-n-eq0-clause-length
 returns-then-n-eq0-clause-length c =
     sym c.if-n-eq0.true
     ∙ longest_is c.args.s.now _ _ _ _ _ _ _ _ _ _ _ _ _ c.name_length-name.ensures.value c.system_name_length-system.ensures.value c.number_length-number.ensures.value c.time_length-time.ensures.value
-    c.one_step_length-step.ensures.value c.string_length-string.ensures.value (c.spelled_length-sign.ensures.value ∙ ap (λ t. longest (is_spelled t) c.args.s.now) c.signs.ensures)
+    c.one_step_length-step.ensures.value c.string_length-string.ensures.value c.sign_length-sign.ensures.value
     c.max.ensures c.max-2.ensures c.max-3.ensures c.max-4.ensures c.max-5.ensures c.max-n.ensures
 
 pub returns-then-n-eq0-clause-kind : goal.returns-then-n-eq0-clause-kind
@@ -25,7 +25,7 @@ within s n e = omega (arith, longest-le is_token s)
 most : (c : goal.After-chosen) → c.max-n.result ≡ longest is_token c.args.s.now
 most c =
     longest_is c.args.s.now _ _ _ _ _ _ _ _ _ _ _ _ _ c.name_length-name.ensures.value c.system_name_length-system.ensures.value c.number_length-number.ensures.value c.time_length-time.ensures.value
-    c.one_step_length-step.ensures.value c.string_length-string.ensures.value (c.spelled_length-sign.ensures.value ∙ ap (λ t. longest (is_spelled t) c.args.s.now) c.signs.ensures)
+    c.one_step_length-step.ensures.value c.string_length-string.ensures.value c.sign_length-sign.ensures.value
     c.max.ensures c.max-2.ensures c.max-3.ensures c.max-4.ensures c.max-5.ensures c.max-n.ensures
 
 pub returns-clause-length : goal.returns-clause-length

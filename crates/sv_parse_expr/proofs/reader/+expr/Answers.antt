@@ -11,6 +11,8 @@ use Rattle.sv_tree.specs.ExprGrammar as grammar
 use Rattle.sv_parse_expr.specs.Views.{found, found_bracket, found_list, found_suffix}
 use Rattle.sv_parse_expr.proofs.Calls.{on_bracket, on_call, on_post}
 use Rattle.sv_parse_expr.specs.Chains.{climbed, suffix_first}
+use Rattle.sv_tree.specs.Forms.{comma, commas as comma_list}
+use Rattle.sv_parse_expr.proofs.ArgumentLaws.{listed_loop}
 use Rattle.sv_parse_expr.proofs.Loops.{loop_ends, loop_goes_on, loop_shorter}
 use Rattle.sv_parse_expr.proofs.Parts.{commas, suffixes_loop, reach_one, exprs_depth_push, suffixes_depth_push}
 use Rattle.sv_parse_expr.proofs.Links.{links_ends, links_goes_on, given_is}
@@ -70,3 +72,18 @@ prim-returns-in_ok-inner-in-Call-clause-reads t c =
 pub prim-returns-in_ok-inner-in-Post-clause-reads : goal.prim-returns-in_ok-inner-in-Post-clause-reads
 prim-returns-in_ok-inner-in-Post-clause-reads t c =
     rw c.post_of_found.ensures.reads (on_post c.args.budget c.in_ok-found.field-0 c.in-Post.root c.in-Post.rest (found_list c.in_ok-inner-in-Post.inner) (reads c.args.budget grammar.prim (toks c.args.tokens.now)) (cc c.in-Post.is) c.in_ok-found.ensures.reads c.in_ok-inner-in-Post.ensures.reads)
+
+pub more_listed-commas-preserved : goal.more_listed-commas-preserved
+more_listed-commas-preserved t c = record {
+  told = loop_goes_on (comma grammar.expr) (code k.Comma ∷ []) 0 listed_loop c.args.budget (map expr c.commas.list.items) (map expr c.push.new.self.items) (toks c.commas.rest.now) (found c.in_ok-found.found) (reads c.args.budget (comma_list grammar.expr) (toks c.args.tokens.now)) (search rules) refl c.in_ok-found.ensures.reads (rw c.in_ok-push.ensures.items (map_push expr c.commas.list.items c.in_ok-found.found.tree)) c.commas.invariant.told;
+  depth = cc (exprs_depth_push c.commas.list.items c.in_ok-found.found.tree, c.larger-depth.ensures.value, c.commas.invariant.depth, c.in_ok-found.ensures.depth.0, c.in_ok-push.ensures.items);
+  low = let h = c.larger-depth.ensures.low (c.args.budget + 1) (omega (arith, c.commas.invariant.low)) (omega (arith, c.in_ok-found.ensures.depth.1)) in omega arith;
+}
+
+pub more_listed-commas-smaller : goal.more_listed-commas-smaller
+more_listed-commas-smaller t c = loop_shorter (comma grammar.expr) (code k.Comma ∷ []) 0 listed_loop c.args.budget c.commas.rest.now c.in_ok-found.found.rest.now (found c.in_ok-found.found) refl c.in_ok-found.ensures.reads refl
+
+pub more_listed-returns-in_err-found-clause-reads : goal.more_listed-returns-in_err-found-clause-reads
+more_listed-returns-in_err-found-clause-reads t c =
+    let p = err_from_is_err_and c.from_residual.result c.from_residual.ensures.1 in
+    rw (p.1, p.2) (loop_ends (comma grammar.expr) (code k.Comma ∷ []) 0 listed_loop c.args.budget c.in_err-found.field-0.0 (map expr c.commas.list.items) (toks c.commas.rest.now) (reads c.args.budget (comma_list grammar.expr) (toks c.args.tokens.now)) (search rules) refl c.in_err-found.ensures.reads c.commas.invariant.told)

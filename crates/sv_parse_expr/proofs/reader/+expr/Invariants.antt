@@ -3,6 +3,7 @@ use Rattle.sv_grammar.specs.Code.Code.{Rep}
 use Rattle.sv_tree.specs.Codes.{toks}
 use Rattle.sv_tree.specs.Depth.{depth, exprs_depth, suffixes_depth}
 use Rattle.sv_tree.specs.View.{expr, expr_list, suffix, suffix_list}
+use Rattle.sv_tree.specs.Forms.{comma, commas}
 use Rattle.sv_tree.specs.Grammar.{reads}
 use Rattle.sv_tree.specs.ExprGrammar as grammar
 use Rattle.sv_parse_expr.specs.Chains.{from, links, climbed}
@@ -21,7 +22,16 @@ abbrev pub decreases-closed : goal.decreases-closed
 decreases-closed l = 64 * l.budget + 0
 
 abbrev pub decreases-arguments : goal.decreases-arguments
-decreases-arguments l = 64 * l.budget + 3
+decreases-arguments l = 64 * l.budget + 25
+
+abbrev pub decreases-listed : goal.decreases-listed
+decreases-listed l = 64 * l.budget + 24
+
+abbrev pub decreases-more_listed : goal.decreases-more_listed
+decreases-more_listed l = 64 * l.budget + 23
+
+abbrev pub decreases-comma_listed : goal.decreases-comma_listed
+decreases-comma_listed l = 64 * l.budget + 22
 
 abbrev pub decreases-select : goal.decreases-select
 decreases-select l = 64 * l.budget + 0
@@ -91,3 +101,14 @@ invariant-operators-links l = record {
 
 abbrev pub decreases-operators-links : goal.decreases-operators-links
 decreases-operators-links l = l.budget - l.left.depth
+
+-- the arguments so far, read on, give what all give
+abbrev pub invariant-more_listed-commas : goal.invariant-more_listed-commas
+invariant-more_listed-commas l = record {
+  told : from (comma grammar.expr) l.budget (map expr l.list.items) (toks l.rest) ≡ reads l.budget (commas grammar.expr) (toks l.tokens);
+  depth : l.depth ≡ exprs_depth (expr_list l.list.items);
+  low : l.depth ≤ l.budget;
+}
+
+abbrev pub decreases-more_listed-commas : goal.decreases-more_listed-commas
+decreases-more_listed-commas l = length l.rest
