@@ -131,7 +131,8 @@ fn takes_what_is_built(rt: HostRuntime) -> Result<(), Fail> {
     };
     assert!(rt; is_built(&initial(delay(alloc, literal)?)?));
     assert!(rt; is_built(&initial(display(alloc, PrintKind::Now, 3)?)?));
-    assert!(rt; !is_built(&initial(display(alloc, PrintKind::Strobe, 3)?)?));
+    assert!(rt; is_built(&initial(display(alloc, PrintKind::Strobe, 3)?)?));
+    assert!(rt; !is_built(&initial(display(alloc, PrintKind::Monitor, 3)?)?));
     assert!(rt; !is_built(&initial(Form::Exit)?));
     let always = process(alloc, ProcessKind::Always, None);
     assert!(rt; !is_built(&parts(alloc, Form::Null, always)?));

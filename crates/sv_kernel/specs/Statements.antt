@@ -1,0 +1,47 @@
+-- What the code of a statement owes: the machine keeps what the definitions leave, and the lines are the records that they add.
+use Rattle.std.specs.Prelude.{◌≡◌, ◌++◌, ℕ, List, Option, Some, None, IsNone, Ok, Err, slice_set}
+use Rattle.std.specs.List.{AllByRecursion}
+use Rattle.sv_value.specs.declared.number.ProcessId.{ProcessId}
+use Rattle.sv_value.specs.declared.place.FaultKind.TheVariants.{Length}
+use Rattle.sv_value.specs.declared.schedule.Side.{Side}
+use Rattle.sv_value.specs.declared.val.Val.TheVariants as val
+use Rattle.sv_flat.specs.declared.design.Parts.{Parts}
+use Rattle.sv_flat.specs.Eval.{Valued}
+use Rattle.sv_flat.specs.Config.{Config, process_at}
+use Rattle.sv_flat.specs.Process.{ProcessState, Todo}
+use Rattle.sv_flat.specs.Sound.{IsSound, IsPlainState, IsPlainTodo}
+use Rattle.sv_kernel.specs.declared.line.Line.{Line}
+use Rattle.sv_kernel.specs.declared.machine.Machine.{Machine}
+use Rattle.sv_kernel.specs.Frames.{stmts, stmts_left}
+use Rattle.sv_kernel.specs.Machine.{Stands, Tracks, records_of}
+use Rattle.sv_kernel.specs.Waits.{awaited_by}
+
+-- a process of a side runs, and a machine stands for it with the statement taken off that is executed
+pub record Runs (d : Parts) (m : Machine) (p : ProcessId) (side : Side) (c : Config) (u : ProcessState) (rest : List Todo) : Type 0 where
+  pub sound : IsSound d c
+  pub running : c.running ≡ Some p
+  pub going : IsNone c.fault
+  pub fault : m.fault ≡ c.fault
+  pub on : u.side ≡ side
+  pub same_side : (x : ProcessState) → process_at c p ≡ Some x → u.side ≡ x.side
+  pub plain : IsPlainState d.objects u
+  pub quiet : awaited_by u ≡ None
+  pub left : AllByRecursion (IsPlainTodo d.objects) rest
+  pub stands : Stands d m c (slice_set (stmts_left c) p.0 (stmts rest))
+
+-- a configuration, from the one before, the process and what it has left
+abbrev pub Leaves : Type 0
+Leaves = Config → ProcessState → List Todo → Config
+
+-- whatever the machine stood for, it stands for what is left then
+abbrev pub Does : Parts → (old new : Machine) → ProcessId → Side → Leaves → Type 0
+Does d m n p side f = (c : Config) (u : ProcessState) (rest : List Todo) → Runs d m p side c u rest → Tracks d n (f c u rest)
+
+-- and these are the records that were added
+abbrev pub Adds : Parts → Machine → ProcessId → Side → Leaves → List Line → Type 0
+Adds d m p side f ls = (c : Config) (u : ProcessState) (rest : List Todo) → Runs d m p side c u rest → (f c u rest).records ≡ c.records ++ records_of ls
+
+-- a text, where there is none the fault of one that is too long
+abbrev pub IsText : Option (List ℕ) → Valued → Type 0
+IsText (Some t) v = v ≡ Ok (val.Text t)
+IsText None v = v ≡ Err Length

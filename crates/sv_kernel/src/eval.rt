@@ -1,0 +1,113 @@
+// The value of an expression, in a context (IEEE 1800-2017, 11.6 and 11.8).
+ghost use Rattle.std.specs.Prelude.{◌≡◌, ◌≢◌, ◌<◌, ◌≤◌, Ok, length};
+ghost use Rattle.sv_value.specs.declared.val.Val.TheVariants as val;
+ghost use Rattle.sv_value.specs.Operators.{binary_of, TakesWidths};
+ghost use Rattle.sv_flat.specs.Built.{IsBuilt, IsBuiltExpr, IsWidth};
+ghost use Rattle.sv_flat.specs.Eval.{By_truth, eval as value_in, width_of, operands_of, is_in_context, value_of};
+ghost use Rattle.sv_flat.specs.State.{View};
+ghost use Rattle.sv_kernel.specs.Values.{Sees, how, unary_within, binary_within};
+
+use crate::operands::{
+    Context, Operands, is_in_context, left_context, operand_context, operands_of, right_context,
+};
+use crate::values::{Change, as_integral, own_context, value_of_object, within};
+use sv_arith::{binary, unary};
+use sv_flat::{Design, Expr, ExprForm};
+use sv_value::{BinOp, Bits, UnOp};
+
+/// The value of an expression that stands alone, where an object may have another value instead.
+pub fn value(design: &Design, expr: &Expr, values: &[Bits], change: &Option<Change>) -> Bits
+    requires built { IsBuilt design.now }
+    requires expr { IsBuiltExpr design.now.objects expr.now }
+    requires each { length values.now ≡ length design.now.objects }
+    ensures value { (v : View) → Sees v values.now change.now → value_of expr.now v ≡ Ok (val.Bits result) }
+    ensures width { length result.symbols ≡ width_of expr.now }
+{
+    eval(design, expr, own_context(design, expr), values, change)
+}
+
+/// The value of an expression in a context.
+fn eval(
+    design: &Design,
+    expr: &Expr,
+    context: Context,
+    values: &[Bits],
+    change: &Option<Change>,
+) -> Bits
+    requires built { IsBuilt design.now }
+    requires expr { IsBuiltExpr design.now.objects expr.now }
+    requires each { length values.now ≡ length design.now.objects }
+    requires width { IsWidth context.width }
+    ensures value { (v : View) → Sees v values.now change.now → value_in expr.now context.width context.signed v ≡ Ok (val.Bits result) }
+    ensures width { length result.symbols ≡ context.width }
+{
+    match &*expr.form {
+        ExprForm::Literal { value, .. } => within(context, *value),
+        ExprForm::Object { object, .. } => {
+            within(context, value_of_object(values, change, *object))
+        }
+        ExprForm::Unary { op, operand } => {
+            let inner = operand_context(is_in_context(*op), context, own_context(design, operand));
+            let x = eval(design, operand, inner, values, change);
+            unary_value(*op, context, x)
+        }
+        ExprForm::Binary { op, left, right } => {
+            let operands = operands_of(*op);
+            let a = own_context(design, left);
+            let b = own_context(design, right);
+            let left_inner = left_context(operands, context, a, b);
+            let right_inner = right_context(operands, context, a, b);
+            let x = eval(design, left, left_inner, values, change);
+            let y = eval(design, right, right_inner, values, change);
+            binary_value(*op, operands, context, x, y)
+        }
+        ExprForm::Convert { to, operand } => {
+            let inner = own_context(design, operand);
+            let x = eval(design, operand, inner, values, change);
+            within(context, as_integral(*to, x))
+        }
+        ExprForm::Widen { operand, .. } => eval(design, operand, context, values, change),
+        _ => unreachable!(),
+    }
+}
+
+/// What an operator gives for its operand.
+fn unary_value(op: UnOp, context: Context, x: Bits) -> Bits
+    requires { IsWidth context.width }
+    ensures { result ≡ unary_within (is_in_context op) op context x }
+{
+    if is_in_context(op) {
+        unary(op, x)
+    } else {
+        within(context, unary(op, x))
+    }
+}
+
+/// What an operator gives for its operands, each in its context.
+fn binary_value(op: BinOp, operands: Operands, context: Context, x: Bits, y: Bits) -> Bits
+    requires width { IsWidth context.width }
+    requires how { how operands ≡ operands_of op }
+    requires takes { operands_of op ≢ By_truth → TakesWidths op x y }
+    ensures { result ≡ binary_within (operands_of op) op context x y }
+{
+    match operands {
+        Operands::InContext => binary(op, x, y),
+        Operands::ByAmount => binary(op, x, y),
+        Operands::Compared => within(context, binary(op, x, y)),
+        Operands::ByTruth => within(context, by_truth(op, x, y)),
+    }
+}
+
+/// `&&` and `||` look at the truth of their operands alone.
+fn by_truth(op: BinOp, x: Bits, y: Bits) -> Bits
+    requires { operands_of op ≡ By_truth }
+    ensures { result ≡ binary_of op x y }
+{
+    let x = unary(UnOp::ReduceOr, x);
+    let y = unary(UnOp::ReduceOr, y);
+    match op {
+        BinOp::LogicalAnd => binary(BinOp::And, x, y),
+        BinOp::LogicalOr => binary(BinOp::Or, x, y),
+        _ => unreachable!(),
+    }
+}

@@ -1,0 +1,169 @@
+// Runs one statement of the running process.
+ghost use Rattle.std.specs.Prelude.{◌≡◌, ◌≢◌, ◌<◌, ◌≤◌, ◌++◌, ◌+◌, ◌^◌, ℕ, OnOk, IfOk, IsNone, Some, length, sum_by};
+ghost use Rattle.std.specs.List.{Contains};
+ghost use Rattle.sv_value.specs.Regions.{standing};
+ghost use Rattle.sv_value.specs.declared.number.RoutineId.{RoutineId};
+ghost use Rattle.sv_flat.specs.declared.stmt.Form.TheVariants as form;
+ghost use Rattle.sv_flat.specs.Config.{Config};
+ghost use Rattle.sv_flat.specs.Steps.{statement_ran};
+ghost use Rattle.sv_flat.specs.Built.{IsBuilt, IsBuiltForm, IsBuiltExpr};
+ghost use Rattle.sv_flat.specs.Eval.{vector_in};
+ghost use Rattle.sv_value.specs.Operators.{is_true};
+ghost use Rattle.sv_flat.specs.Sound.{IsSound, weight_of_all};
+ghost use Rattle.sv_flat.specs.Short.{short, value_now};
+ghost use Rattle.sv_kernel.specs.Frames.{stmts_left};
+ghost use Rattle.sv_kernel.specs.Machine.{Stands, Tracks, records_of};
+ghost use Rattle.sv_kernel.specs.Statements.{Adds, Does};
+ghost use Rattle.sv_kernel.specs.Values.{store_of};
+ghost use Rattle.sv_kernel.specs.Waits.{stmt_at, waits_weight};
+
+use crate::arms::{keep_strobe, print_now, wait_at};
+use crate::delays::{sleep, ticks_of_delay, ticks_of_optional_delay};
+use crate::eval::value;
+use crate::frames::Frame;
+use crate::line::Line;
+use crate::machine::Machine;
+use crate::processes::{first_at, take_first_at};
+use crate::statements::{assign, enter};
+use crate::updates::update_later;
+use sv_arith::any_one;
+use sv_flat::{Design, Expr, Form, PrintKind, Stmt};
+use sv_value::{Bits, NoMemory, ProcessId, Side, Sym};
+
+/// Whether a condition holds.
+fn holds(design: &Design, condition: &Expr, values: &[Bits]) -> bool
+    requires built { IsBuilt design.now }
+    requires expr { IsBuiltExpr design.now.objects condition.now }
+    requires each { length values.now ≡ length design.now.objects }
+    ensures { (c : Config) → store_of values.now ≡ c.store → result ≡ is_true (vector_in (value_now design.now condition.now c)) }
+{
+    match any_one(value(design, condition, values, &None)) {
+        Sym::One => true,
+        Sym::Zero => false,
+        Sym::X => false,
+        Sym::Z => false,
+    }
+}
+
+/// Runs a statement of the running process, which stands at a position and was taken off. It gives what is printed.
+fn execute(
+    machine: &mut Machine,
+    design: &Design,
+    process: ProcessId,
+    side: Side,
+    at: Frame,
+    stmt: &Stmt,
+) -> Result<Vec<Line>, NoMemory>
+    requires process { process.0 < length machine.old.processes.items }
+    requires waiting { process.0 < length machine.old.waits.items }
+    requires in_time { machine.old.wheel.last ≤ machine.old.time }
+    requires absent { ¬ Contains (standing machine.old.regions) process }
+    requires few { length (standing machine.old.regions) < 2 ^ 31 }
+    requires each { length machine.old.values.items ≡ length design.now.objects }
+    requires count { length machine.old.waits.items ≡ length design.now.processes }
+    requires weights { (w : ProcessId → ℕ) → sum_by w (standing machine.old.regions) + waits_weight w 0 machine.old.waits.items ≤ weight_of_all w design.now }
+    requires built { IsBuilt design.now }
+    requires at { stmt_at design.now at ≡ Some stmt.now }
+    requires form { IsBuiltForm design.now.objects stmt.now.form }
+    requires once { (body : RoutineId) → stmt.now.form ≢ form.Forever body }
+    ensures ok { OnOk result (Does design.now machine.old machine.new process side (λ c u rest. short design.now process u stmt.now stmt.now.form rest c)) }
+    ensures lines { IfOk result (λ lines. Adds design.now machine.old process side (λ c u rest. short design.now process u stmt.now stmt.now.form rest c) lines.items) }
+    ensures time { machine.new.time ≡ machine.old.time }
+    ensures executed { machine.new.executed ≡ machine.old.executed }
+{
+    match &stmt.form {
+        Form::Null => enter(machine, design, process, None)?,
+        Form::Block { body, .. } => enter(machine, design, process, Some(*body))?,
+        Form::Assign { targets, value } => match targets.as_slice() {
+            [target] => assign(machine, design, process, target, value)?,
+            _ => unreachable!(),
+        },
+        Form::Nonblocking {
+            targets,
+            value,
+            delay,
+            in_ticks,
+        } => match targets.as_slice() {
+            [target] => {
+                let ticks = ticks_of_optional_delay(design, delay, *in_ticks);
+                update_later(
+                    machine, design, process, side, stmt.at, target, value, ticks,
+                )?;
+            }
+            _ => unreachable!(),
+        },
+        Form::If { condition, yes, no } => {
+            let body = if holds(design, condition, &machine.values) {
+                Some(*yes)
+            } else {
+                *no
+            };
+            enter(machine, design, process, body)?;
+        }
+        Form::At { .. } => wait_at(machine, design, process, at),
+        Form::Delay { amount, in_ticks } => {
+            let ticks = ticks_of_delay(design, amount, *in_ticks);
+            sleep(machine, process, side, stmt.at, ticks)?;
+        }
+        Form::Print {
+            kind,
+            pieces,
+            values,
+        } => match kind {
+            PrintKind::Now => {
+                return print_now(
+                    machine,
+                    design,
+                    process,
+                    side,
+                    stmt.at,
+                    pieces.as_slice(),
+                    values.as_slice(),
+                );
+            }
+            PrintKind::Strobe => keep_strobe(machine, design, process, side, at)?,
+            PrintKind::Monitor => unreachable!(),
+        },
+        Form::Finish => machine.finishing = true,
+        _ => unreachable!(),
+    }
+    Ok(Vec::new(machine.alloc))
+}
+
+/// Runs the first statement that is left of the running process.
+pub fn run_statement(
+    machine: &mut Machine,
+    design: &Design,
+    process: ProcessId,
+) -> Result<Vec<Line>, NoMemory>
+    requires process { process.0 < length machine.old.processes.items }
+    requires known { process.0 < length design.now.processes }
+    requires in_time { machine.old.wheel.last ≤ machine.old.time }
+    requires absent { ¬ Contains (standing machine.old.regions) process }
+    requires few { length (standing machine.old.regions) < 2 ^ 31 }
+    requires each { length machine.old.values.items ≡ length design.now.objects }
+    requires count { length machine.old.waits.items ≡ length design.now.processes }
+    requires weights { (w : ProcessId → ℕ) → sum_by w (standing machine.old.regions) + waits_weight w 0 machine.old.waits.items ≤ weight_of_all w design.now }
+    requires built { IsBuilt design.now }
+    ensures ok { OnOk result ((c : Config) → IsSound design.now c → c.running ≡ Some process → machine.old.fault ≡ c.fault → IsNone c.fault → Stands design.now machine.old c (stmts_left c)
+        → Tracks design.now machine.new (statement_ran design.now (Some process) c)) }
+    ensures lines { IfOk result (λ lines. (c : Config) → IsSound design.now c → c.running ≡ Some process → machine.old.fault ≡ c.fault → IsNone c.fault → Stands design.now machine.old c (stmts_left c)
+        → (statement_ran design.now (Some process) c).records ≡ c.records ++ records_of lines.items) }
+    ensures time { machine.new.time ≡ machine.old.time }
+    ensures executed { machine.new.executed ≡ machine.old.executed }
+{
+    let Some(top) = first_at(&mut machine.processes, design, process) else {
+        machine.running = None;
+        return Ok(Vec::new(machine.alloc));
+    };
+    let stmt = &design.body(top.body)[top.next];
+    if let Form::Forever { body } = &stmt.form {
+        enter(machine, design, process, Some(*body))?;
+        return Ok(Vec::new(machine.alloc));
+    }
+    let Some(_) = take_first_at(&mut machine.processes, design, process) else {
+        unreachable!();
+    };
+    let side = design.processes()[process.0 as usize].side;
+    execute(machine, design, process, side, top, stmt)
+}
