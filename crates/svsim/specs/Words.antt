@@ -1,8 +1,95 @@
 -- What the words of the command line ask for.
-use Rattle.std.specs.Prelude.{ℕ, List, string_bytes}
+use Rattle.std.specs.Prelude.{ℕ, ◌^◌, ◌-◌, Bool, false, not, ◌==◌, ◌&&◌, List, [], ◌∷◌, Option, None, Some, nat_le, length, codes, option_and_then, option_map, string_bytes, if◌then◌else◌}
+use Rattle.std.specs.Str.{bytes_eq}
+use Rattle.svsim.specs.Digits.{is_number, number_of}
+use Rattle.svsim.specs.declared.words.Simulation.{Simulation}
 use Rattle.svsim.specs.declared.words.Task.{Task}
 use Rattle.svsim.specs.declared.words.Task.TheVariants.{Run}
 
--- the file of a task
-abbrev pub file_of : Task → List ℕ
-file_of (Run file) = string_bytes file
+-- a run of a file, with the numbers of the Active list, and at most so many steps
+pub record Asked : Type 0 where
+  pub file : List ℕ
+  pub active : List ℕ
+  pub steps : ℕ
+
+-- ---- numbers
+
+-- a number has at most this many digits
+abbrev pub MOST_DIGITS : ℕ
+MOST_DIGITS = 20
+
+-- a list of choices has at most this many numbers
+abbrev pub MOST_CHOICES : ℕ
+MOST_CHOICES = 65536
+
+-- a number within a bound that is passed by none
+unfoldable pub number_within : ℕ → List ℕ → Option ℕ
+number_within most digits = if is_number MOST_DIGITS digits && nat_le (number_of digits) most then Some (number_of digits) else None
+
+-- a byte before the first part
+abbrev pub with_first : ℕ → List (List ℕ) → List (List ℕ)
+with_first b [] = (b ∷ []) ∷ []
+with_first b (p ∷ ps) = (b ∷ p) ∷ ps
+
+-- the parts of a text between commas
+abbrev pub between_commas : List ℕ → List (List ℕ)
+between_commas [] = [] ∷ []
+between_commas (b ∷ bs) = if b == 44 then [] ∷ between_commas bs else with_first b (between_commas bs)
+
+-- the numbers of parts, if each is a choice: a number below 2^32
+abbrev pub choices_of : List (List ℕ) → Option (List ℕ)
+choices_of [] = Some []
+choices_of (p ∷ ps) = option_and_then (λ n. option_map (λ ns. n ∷ ns) (choices_of ps)) (number_within (2 ^ 32 - 1) p)
+
+-- not too many of them
+abbrev pub few : List ℕ → Option (List ℕ)
+few ns = if nat_le (length ns) MOST_CHOICES then Some ns else None
+
+-- a list of choices; the empty word has none
+unfoldable pub choice_list : List ℕ → Option (List ℕ)
+choice_list [] = Some []
+choice_list (b ∷ bs) = option_and_then few (choices_of (between_commas (b ∷ bs)))
+
+-- ---- words
+
+-- a word begins with `-`
+abbrev pub is_option : List ℕ → Bool
+is_option [] = false
+is_option (b ∷ bs) = b == 45
+
+-- the list of `[--active L]` as it is written, which is empty where there is none
+abbrev pub list_in : List (List ℕ) → List ℕ
+list_in (w ∷ l ∷ rest) = if bytes_eq w (codes "--active") then l else []
+list_in _ = []
+
+-- the words behind `[--active L]`
+abbrev pub behind_list : List (List ℕ) → List (List ℕ)
+behind_list (w ∷ l ∷ rest) = if bytes_eq w (codes "--active") then rest else w ∷ l ∷ rest
+behind_list words = words
+
+-- `[--steps N]`
+abbrev pub steps_in : (most : ℕ) → List (List ℕ) → Option ℕ
+steps_in most [] = Some most
+steps_in most (w ∷ n ∷ []) = if bytes_eq w (codes "--steps") then number_within most n else None
+steps_in most _ = None
+
+-- `FILE [--active L] [--steps N]`
+abbrev pub asked_of : (most : ℕ) → (file : List ℕ) → List (List ℕ) → Option Asked
+asked_of most file options =
+    option_and_then (λ active. option_map (λ steps. record { file = file; active = active; steps = steps }) (steps_in most (behind_list options)))
+    (choice_list (list_in options))
+
+-- `run FILE [--active L] [--steps N]`, where FILE does not begin with `-`
+abbrev pub asked : (most : ℕ) → List (List ℕ) → Option Asked
+asked most (command ∷ file ∷ options) = if bytes_eq command (codes "run") && not (is_option file) then asked_of most file options else None
+asked most _ = None
+
+-- ---- what is read
+
+-- what a simulation is asked for by
+abbrev pub asked_for : Simulation → Asked
+asked_for s = record { file = string_bytes s.file; active = s.active; steps = s.steps }
+
+-- what a task asks for
+abbrev pub asked_by : Task → Asked
+asked_by (Run s) = asked_for s
