@@ -1,7 +1,7 @@
 -- One reading after another.
-use Rattle.std.proofs.Common.{◌≡◌, ℕ, List, Result, Ok, Err, refl, sym, ◌∙◌}
+use Rattle.std.proofs.Common.{◌≡◌, ℕ, List, Ok, Err, refl}
 use Rattle.sv_grammar.specs.Tokens.{Tok}
-use Rattle.sv_grammar.specs.Language.{Miss, Out}
+use Rattle.sv_grammar.specs.Language.{Out}
 use Rattle.sv_grammar.specs.Reading.{◌>>=◌}
 use Rattle.sv_tree.specs.Forms.{C, both, three, then_}
 use Rattle.sv_tree.specs.Grammar.{reads}

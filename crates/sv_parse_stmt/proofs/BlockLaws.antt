@@ -1,14 +1,14 @@
 -- Items of a block: declarations, and then statements.
-use Rattle.std.proofs.Common.{◌≡◌, ℕ, zero, suc, ◌-◌, ◌<◌, ◌≤◌, Bool, true, false, cond, if◌then◌else◌, ◌&&◌, ◌||◌, ◌==◌, List, [], ◌∷◌, ◌++◌, map, length, drop, Result, Ok, Err, refl, sym, ap, subst, ◌∙◌, arith}
+use Rattle.std.proofs.Common.{◌≡◌, ℕ, zero, suc, ◌-◌, ◌<◌, Bool, true, false, cond, if◌then◌else◌, ◌&&◌, ◌||◌, ◌==◌, List, [], ◌∷◌, ◌++◌, map, length, drop, Ok, Err, refl, sym, ap, ◌∙◌, arith}
 use Rattle.std.proofs.lemmas.List.{append-nil}
 use Rattle.sv_grammar.specs.Tokens.{Tok, next, mem, disjoint}
 use Rattle.sv_grammar.specs.Language.{Miss, Deep, Odd, Out}
 use Rattle.sv_grammar.specs.Reading.{◌>>=◌, one_of, run_upto}
-use Rattle.sv_grammar.specs.Code.{fine, info, least, reach, pick, items_from, read, readers}
+use Rattle.sv_grammar.specs.Code.{fine, info, least, reach, pick, items_from}
 use Rattle.sv_grammar.specs.Code.Code.{Map, Rep, Items, Inner}
 use Rattle.sv_grammar.proofs.Answers.{no_true}
 use Rattle.sv_grammar.proofs.Lists.{apart, mem-left, mem-right}
-use Rattle.sv_grammar.proofs.Steps.{items_is, items_stop, items_fail, items_more, item_short, items_deep}
+use Rattle.sv_grammar.proofs.Steps.{items_is, items_stop, items_fail, items_more, item_short}
 use Rattle.sv_tree.specs.declared.kind.Kind.TheVariants as k
 use Rattle.sv_tree.specs.declared.token.Token.{Token}
 use Rattle.sv_tree.specs.declared.word.Name.{Name}
@@ -19,7 +19,7 @@ use Rattle.sv_tree.specs.Stmt as stmts
 use Rattle.sv_tree.specs.Forms.{Production, Value, Statement, Named, Unnamed, Placed, tok, then_, name, name_of, statement}
 use Rattle.sv_tree.specs.ExprGrammar.{comma_expr, inner_exprs, select, suffix, suffixes, post_rest, named_post, this_post, super_post, post, targets, lval, system_call, super_call, call, closed, cast, number, time, text, null_, dollar, group, named, this, repeated, braces, word_cast, plain_prim, prim, prefixed, unary, levels, expr_over, expr, plain_unary, plain_expr, cast_rest, arguments}
 use Rattle.sv_tree.specs.TypeGrammar.{range, enum_item, enum, vector_type, atom_type, mailbox_type, word_type, named_type, type, dim_inside, dim, new_rest, init, declarator_rest, declarator, declarators, more_declarators, life_decl, var_decl, plain_decl, word_decl, named_decl_rest}
-use Rattle.sv_tree.specs.StmtGrammar.{BlockItem, Declared, Made, is_statement, unlabelled, amount, delay, cycles_amount, event_part, next_event_part, event_parts, event_list, event, assign_now, assign_later, assign_by, step_after, assign_end, post_end, named_rest, super_rest, super_statement, early_rest, early, block_items, block_rest, fork_rest, block, fork, else_, if_rest, if_, default_arm, labelled_arm, arm, case_rest, case_, step_rest, step_before, step, first_rest, unnamed_lval, first_part, for_, while_, do_rest, do_, repeat, forever, foreach, after, at_event, cycles, wait_rest, wait, ignore, return_, null_statement, step_statement, system_statement, this_statement, targets_statement, disable, trigger, break_, continue_, unnamed, body, named_statement, stmt}
+use Rattle.sv_tree.specs.StmtGrammar.{BlockItem, Declared, Made, is_statement, unlabelled, early_rest, early, block_items, after, unnamed, named_statement, stmt}
 use Rattle.sv_tree.specs.Grammar.{heads, need, table, reads, named_first, unnamed_first}
 use Rattle.sv_tree.proofs.Good.{good, inner_is}
 use Rattle.sv_parse_expr.specs.Outcome.{Fails}

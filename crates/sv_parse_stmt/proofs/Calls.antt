@@ -11,7 +11,7 @@ use Rattle.sv_tree.specs.declared.expr.Root.TheVariants as root
 use Rattle.sv_tree.specs.Codes.{code}
 use Rattle.sv_tree.specs.Expr as tree
 use Rattle.sv_tree.specs.Stmt as stmts
-use Rattle.sv_tree.specs.Forms.{Placed, Bracketed, tok, ◌▸◌, ◌◂◌, both, three, in_parentheses, name, name_of, statement}
+use Rattle.sv_tree.specs.Forms.{Placed, Bracketed, tok, ◌▸◌, ◌◂◌, both, three, in_parentheses, name, statement}
 use Rattle.sv_tree.specs.ExprGrammar.{expr, expr_over, levels, unary, prefixed, prim, plain_prim, word_cast, number, time, text, null_, dollar, group, named, post_rest, this, this_post, super_call, system_call, braces, closed, cast, suffixes, suffix, select, comma_expr, super_post, targets, super_new, system, maybe_arguments, call}
 use Rattle.sv_tree.specs.TypeGrammar.{init, new_rest}
 use Rattle.sv_tree.specs.StmtGrammar.{placed, place_of_target, post_end, assign_end, assign_now, assign_later, assign_by, step_after, delay, amount, this_statement, targets_statement, super_statement, super_rest, system_statement, wait, wait_rest}

@@ -1,5 +1,5 @@
 -- The parts of a "for": what each begins with.
-use Rattle.std.proofs.Common.{◌≡◌, ℕ, ◌<◌, Bool, true, false, cond, List, [], ◌∷◌, Result, Ok, Err, refl, ◌∙◌}
+use Rattle.std.proofs.Common.{◌≡◌, ℕ, ◌<◌, Bool, true, false, cond, List, [], ◌∷◌, Ok, Err, refl, ◌∙◌}
 use Rattle.sv_value.specs.declared.place.Place.{Place}
 use Rattle.sv_grammar.specs.Tokens.{Tok, next, mem}
 use Rattle.sv_grammar.specs.Language.{Deep, Odd, Out}

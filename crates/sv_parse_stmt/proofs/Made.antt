@@ -1,8 +1,5 @@
 -- The declarations and the statements among the items of a block.
-use Rattle.std.proofs.Common.{◌≡◌, List, [], ◌∷◌, ◌++◌, map, Option, refl, ap}
-use Rattle.sv_value.specs.declared.place.Place.{Place}
-use Rattle.sv_tree.specs.declared.word.Name.{Name}
-use Rattle.sv_tree.specs.declared.word.JoinWord.{JoinWord}
+use Rattle.std.proofs.Common.{◌≡◌, List, [], ◌∷◌, ◌++◌, map, refl, ap}
 use Rattle.sv_tree.specs.declared.statement.Stmt.{Stmt}
 use Rattle.sv_tree.specs.Stmt as stmts
 use Rattle.sv_tree.specs.StmtView.{stmt, stmt_list, decl}

@@ -1,5 +1,5 @@
 -- Statements by what stands at their front: a name, a label, or neither.
-use Rattle.std.proofs.Common.{◌≡◌, ℕ, true, false, if◌then◌else◌, List, [], ◌∷◌, Option, Some, None, Ok, Err, refl, ◌∙◌}
+use Rattle.std.proofs.Common.{◌≡◌, ℕ, true, false, if◌then◌else◌, List, [], ◌∷◌, Some, None, Ok, Err, refl, ◌∙◌}
 use Rattle.sv_grammar.specs.Tokens.{Tok, next, mem}
 use Rattle.sv_grammar.specs.Language.{Out}
 use Rattle.sv_grammar.specs.Reading.{◌>>=◌, one_of}

@@ -1,8 +1,8 @@
 -- What a statement is once the rest of it is read.
-use Rattle.std.proofs.Common.{◌≡◌, ℕ, ◌<◌, ◌-◌, List, map, Result, Ok, Err, Option, refl, sym, ap, subst, ◌∙◌}
+use Rattle.std.proofs.Common.{◌≡◌, ℕ, ◌<◌, ◌-◌, List, map, Ok, Err, Option, refl, sym, ap, subst, ◌∙◌}
 use Rattle.sv_value.specs.declared.place.Place.{Place}
 use Rattle.sv_grammar.specs.Tokens.{Tok}
-use Rattle.sv_grammar.specs.Language.{Miss, Deep, Odd, Out}
+use Rattle.sv_grammar.specs.Language.{Out}
 use Rattle.sv_grammar.specs.Reading.{◌>>=◌}
 use Rattle.sv_grammar.specs.Code.Code.{Rep}
 use Rattle.sv_tree.specs.declared.kind.Kind.TheVariants as k
@@ -25,7 +25,7 @@ use Rattle.sv_parse_expr.specs.declared.reading.ReadError.{ReadError}
 use Rattle.sv_parse_expr.specs.declared.reading.ReadError.TheVariants as errors
 use Rattle.sv_parse_stmt.specs.Applied.{applied}
 use Rattle.sv_parse_stmt.specs.Fronts.{Remains, Fits, headed}
-use Rattle.sv_parse_stmt.specs.Items.{Armed, armed, block_ended, fork_ended, case_ended, do_ended}
+use Rattle.sv_parse_stmt.specs.Items.{block_ended, fork_ended, case_ended, do_ended}
 use Rattle.sv_parse_stmt.specs.declared.fronts.Head.{Head}
 use Rattle.sv_parse_stmt.specs.declared.fronts.Front.{Front}
 use Rattle.sv_parse_stmt.specs.declared.fronts.Front.TheVariants as front

@@ -1,9 +1,8 @@
 -- Which statement begins with the next token.
-use Rattle.std.proofs.Common.{◌≡◌, ℕ, ◌<◌, Bool, true, false, cond, if◌then◌else◌, ◌==◌, eqb, List, [], ◌∷◌, ◌⊎◌, inl, inr, ⊎_elim, Ok, Err, refl}
+use Rattle.std.proofs.Common.{◌≡◌, ℕ, ◌<◌, Bool, true, false, cond, if◌then◌else◌, eqb, List, [], ◌∷◌, ◌⊎◌, inl, inr, ⊎_elim, Err, refl}
 use Rattle.std.proofs.lemmas.Bool.{eqb-true}
 use Rattle.sv_grammar.specs.Tokens.{Tok, next, mem}
-use Rattle.sv_grammar.specs.Language.{Deep, Odd, Out}
-use Rattle.sv_grammar.specs.Reading.{◌>>=◌}
+use Rattle.sv_grammar.specs.Language.{Deep, Out}
 use Rattle.sv_grammar.specs.Code.{reach}
 use Rattle.sv_tree.specs.declared.kind.Kind.TheVariants as k
 use Rattle.sv_tree.specs.Codes.{code}

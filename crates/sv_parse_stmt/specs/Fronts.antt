@@ -1,6 +1,5 @@
 -- What is left to be read of a statement after the part before its first inner statement.
-use Rattle.std.specs.Prelude.{◌≡◌, ℕ, ◌<◌, List, Result, Ok, Err}
-use Rattle.sv_grammar.specs.Tokens.{Tok}
+use Rattle.std.specs.Prelude.{◌≡◌, ℕ, ◌<◌, Result, Ok, Err}
 use Rattle.sv_grammar.specs.Language.{Out}
 use Rattle.sv_tree.specs.Codes.{toks}
 use Rattle.sv_tree.specs.Stmt as stmts

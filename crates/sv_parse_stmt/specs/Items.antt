@@ -1,5 +1,5 @@
 -- What is read of the parts of statements, as the grammar sees it.
-use Rattle.std.specs.Prelude.{◌≡◌, ℕ, Bool, false, List, ◌++◌, map, Option, Some, None, Result, Ok, Err}
+use Rattle.std.specs.Prelude.{◌≡◌, ℕ, Bool, false, List, ◌++◌, map, Option, Result, Ok, Err}
 use Rattle.sv_value.specs.declared.place.Place.{Place}
 use Rattle.sv_grammar.specs.Tokens.{Tok, next, mem}
 use Rattle.sv_grammar.specs.Language.{Out}
@@ -9,10 +9,9 @@ use Rattle.sv_grammar.specs.Code.Code.{Map}
 use Rattle.sv_tree.specs.declared.kind.Kind.TheVariants as k
 use Rattle.sv_tree.specs.declared.word.Name.{Name}
 use Rattle.sv_tree.specs.declared.word.CaseWord.{CaseWord}
-use Rattle.sv_tree.specs.Codes.{toks}
 use Rattle.sv_tree.specs.Expr as tree
 use Rattle.sv_tree.specs.Stmt as stmts
-use Rattle.sv_tree.specs.View.{expr_list, expr}
+use Rattle.sv_tree.specs.View.{expr_list}
 use Rattle.sv_tree.specs.StmtView as view
 use Rattle.sv_tree.specs.Forms.{Production, Value, Placed, ◌▸◌, ◌◂◌, word, label, statement, tok, in_parentheses}
 use Rattle.sv_tree.specs.Grammar.{heads, need, table, reads}

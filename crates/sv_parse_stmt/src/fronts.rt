@@ -22,7 +22,6 @@ use sv_parse_expr::{ReadError, is_next};
 use sv_tree::{Body, CaseWord, Delay, Event, Expr, First, Kind, Last, Name, Token};
 use sv_value::Place;
 
-
 /// What stands before the one statement of a form, at its first token.
 #[derive(Drop)]
 pub enum Head {

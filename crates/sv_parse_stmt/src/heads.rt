@@ -37,7 +37,11 @@ pub fn while_loop<'a>(
 
 /// `"repeat" "(" expr ")"`
 #[tactic(auto, unfolding(sv_tree::specs::StmtGrammar::repeat))]
-pub fn repeat<'a>(alloc: Global, tokens: &'a [Token], budget: u32) -> Result<Front<'a>, ReadError<'a>>
+pub fn repeat<'a>(
+    alloc: Global,
+    tokens: &'a [Token],
+    budget: u32,
+) -> Result<Front<'a>, ReadError<'a>>
     requires some { 0 < budget }
     requires low { budget ≤ 200 }
     ensures reads { Begun budget result (reads budget grammar.repeat (toks tokens.now)) }
@@ -61,7 +65,11 @@ pub fn forever<'a>(tokens: &'a [Token], budget: u32) -> Result<Front<'a>, ReadEr
 
 /// `"foreach" "(" id "[" id "]" ")"`
 #[tactic(auto, unfolding(sv_tree::specs::StmtGrammar::foreach))]
-pub fn foreach<'a>(alloc: Global, tokens: &'a [Token], budget: u32) -> Result<Front<'a>, ReadError<'a>>
+pub fn foreach<'a>(
+    alloc: Global,
+    tokens: &'a [Token],
+    budget: u32,
+) -> Result<Front<'a>, ReadError<'a>>
     requires some { 0 < budget }
     ensures reads { Begun budget result (reads budget grammar.foreach (toks tokens.now)) }
     ensures fits { IfOk result (Fits budget) }
@@ -78,7 +86,11 @@ pub fn foreach<'a>(alloc: Global, tokens: &'a [Token], budget: u32) -> Result<Fr
 
 /// `delay`
 #[tactic(auto, unfolding(sv_tree::specs::StmtGrammar::after))]
-pub fn after<'a>(alloc: Global, tokens: &'a [Token], budget: u32) -> Result<Front<'a>, ReadError<'a>>
+pub fn after<'a>(
+    alloc: Global,
+    tokens: &'a [Token],
+    budget: u32,
+) -> Result<Front<'a>, ReadError<'a>>
     requires some { 0 < budget }
     requires low { budget ≤ 200 }
     ensures reads { Begun budget result (reads budget grammar.after (toks tokens.now)) }
@@ -90,7 +102,11 @@ pub fn after<'a>(alloc: Global, tokens: &'a [Token], budget: u32) -> Result<Fron
 
 /// `"@" event`
 #[tactic(auto, unfolding(sv_tree::specs::StmtGrammar::at_event))]
-pub fn at_event<'a>(alloc: Global, tokens: &'a [Token], budget: u32) -> Result<Front<'a>, ReadError<'a>>
+pub fn at_event<'a>(
+    alloc: Global,
+    tokens: &'a [Token],
+    budget: u32,
+) -> Result<Front<'a>, ReadError<'a>>
     requires some { 0 < budget }
     requires low { budget ≤ 200 }
     ensures reads { Begun budget result (reads budget grammar.at_event (toks tokens.now)) }
@@ -103,7 +119,11 @@ pub fn at_event<'a>(alloc: Global, tokens: &'a [Token], budget: u32) -> Result<F
 
 /// `"##" (number | id | "(" expr ")")`
 #[tactic(auto, unfolding(sv_tree::specs::StmtGrammar::cycles))]
-pub fn cycles<'a>(alloc: Global, tokens: &'a [Token], budget: u32) -> Result<Front<'a>, ReadError<'a>>
+pub fn cycles<'a>(
+    alloc: Global,
+    tokens: &'a [Token],
+    budget: u32,
+) -> Result<Front<'a>, ReadError<'a>>
     requires some { 0 < budget }
     requires low { budget ≤ 200 }
     ensures reads { Begun budget result (reads budget grammar.cycles (toks tokens.now)) }
@@ -116,7 +136,11 @@ pub fn cycles<'a>(alloc: Global, tokens: &'a [Token], budget: u32) -> Result<Fro
 
 /// `"for" "(" (type id "=" expr | lval "=" expr) ";" expr ";" step ")"`
 #[tactic(auto, unfolding(sv_tree::specs::StmtGrammar::for_))]
-pub fn for_loop<'a>(alloc: Global, tokens: &'a [Token], budget: u32) -> Result<Front<'a>, ReadError<'a>>
+pub fn for_loop<'a>(
+    alloc: Global,
+    tokens: &'a [Token],
+    budget: u32,
+) -> Result<Front<'a>, ReadError<'a>>
     requires some { 0 < budget }
     requires low { budget ≤ 200 }
     ensures reads { Begun budget result (reads budget grammar.for_ (toks tokens.now)) }
@@ -171,7 +195,11 @@ pub fn fork(alloc: Global, tokens: &[Token]) -> Result<Front, ReadError>
 
 /// `"if" "(" expr ")"`
 #[tactic(auto, unfolding(sv_tree::specs::StmtGrammar::if_))]
-pub fn if_else<'a>(alloc: Global, tokens: &'a [Token], budget: u32) -> Result<Front<'a>, ReadError<'a>>
+pub fn if_else<'a>(
+    alloc: Global,
+    tokens: &'a [Token],
+    budget: u32,
+) -> Result<Front<'a>, ReadError<'a>>
     requires some { 0 < budget }
     requires low { budget ≤ 200 }
     ensures reads { Begun budget result (reads budget grammar.if_ (toks tokens.now)) }

@@ -20,6 +20,8 @@ mod openings;
 mod plain;
 mod reader;
 mod starts;
+#[cfg(test)]
+mod tests;
 mod types;
 mod whole;
 mod words;
@@ -31,8 +33,6 @@ pub use declaring::{declarators, more_declarators, named_decl_rest, word_decl};
 pub use ends::BlockItems;
 pub use heads::label_of;
 pub use reader::{items, statement};
-pub use types::{
-    Read, enclosed, maybe_range, maybe_value, range, value, word_type, written_type,
-};
+pub use types::{Read, enclosed, maybe_range, maybe_value, range, value, word_type, written_type};
 pub use whole::stmt;
 pub use words::{edge, life_word, sign, sign_word};

@@ -14,7 +14,7 @@ ghost use Rattle.sv_parse_stmt.specs.Items.{Opened, Armed, Closed};
 use crate::decl::values;
 use crate::declaring::{named_decl_rest, word_decl};
 use crate::ends::ArmHead;
-use crate::starts::{begins_decl, begins_word_decl, goes_on_named, begins_stmt};
+use crate::starts::{begins_decl, begins_stmt, begins_word_decl, goes_on_named};
 use crate::types::Read;
 use std::alloc::Global;
 use sv_parse_expr::{ReadError, expect, is_next, name};

@@ -64,7 +64,11 @@ pub fn disable(tokens: &[Token]) -> Result<Front, ReadError>
 
 /// `"->" lval ";"`
 #[tactic(auto, unfolding(sv_tree::specs::StmtGrammar::trigger))]
-pub fn trigger<'a>(alloc: Global, tokens: &'a [Token], budget: u32) -> Result<Front<'a>, ReadError<'a>>
+pub fn trigger<'a>(
+    alloc: Global,
+    tokens: &'a [Token],
+    budget: u32,
+) -> Result<Front<'a>, ReadError<'a>>
     requires { budget ≤ 200 }
     ensures reads { Begun budget result (reads budget grammar.trigger (toks tokens.now)) }
     ensures fits { IfOk result (Fits budget) }
@@ -129,7 +133,11 @@ pub fn return_from<'a>(
 
 /// `"void" "'" "(" call ")" ";"`
 #[tactic(auto, unfolding(sv_tree::specs::StmtGrammar::ignore))]
-pub fn ignore<'a>(alloc: Global, tokens: &'a [Token], budget: u32) -> Result<Front<'a>, ReadError<'a>>
+pub fn ignore<'a>(
+    alloc: Global,
+    tokens: &'a [Token],
+    budget: u32,
+) -> Result<Front<'a>, ReadError<'a>>
     requires { budget ≤ 200 }
     ensures reads { Begun budget result (reads budget grammar.ignore (toks tokens.now)) }
     ensures fits { IfOk result (Fits budget) }

@@ -130,12 +130,7 @@ fn unnamed<'a>(alloc: Global, tokens: &'a [Token], budget: u32) -> Read<'a, Plac
 /// `stmt ["else" stmt]`: an `else` belongs to the nearest `if`.
 #[cycle(stmt)]
 #[tactic(auto, using(sv_tree::proofs::Good::inner_is), unfolding(sv_tree::specs::StmtGrammar::if_rest, sv_tree::specs::StmtGrammar::else_))]
-fn if_rest<'a>(
-    alloc: Global,
-    condition: Expr,
-    tokens: &'a [Token],
-    budget: u32,
-) -> Read<'a, Body>
+fn if_rest<'a>(alloc: Global, condition: Expr, tokens: &'a [Token], budget: u32) -> Read<'a, Body>
     requires some { 0 < budget }
     requires low { budget ≤ 200 }
     ensures { Gives (λ x. (view.body x.0, toks x.1.now)) result (applied (expr condition) (reads budget grammar.if_rest (toks tokens.now))) }

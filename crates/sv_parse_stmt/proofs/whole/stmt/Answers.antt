@@ -1,4 +1,4 @@
-use Rattle.std.proofs.Common.{◌≡◌, ℕ, ◌-◌, ◌<◌, List, Ok, subst, arith}
+use Rattle.std.proofs.Common.{◌≡◌, ◌-◌, List, Ok, subst, arith}
 use Rattle.std.proofs.lemmas.List.{take_rest}
 use Rattle.sv_tree.specs.declared.token.Token.{Token}
 use Rattle.sv_tree.specs.Codes.{toks}
