@@ -92,7 +92,7 @@ fn takes_a_list_of_choices(rt: HostRuntime) -> Result<(), Fail> {
     ] {
         let (bytes, status) = run_with(alloc, text.as_bytes(), options)?;
         assert_eq!(rt; status, 0, "at {options}");
-        assert_eq!(rt; bytes.len(), 22, "at {options}");
+        assert_eq!(rt; bytes.len(), 21, "at {options}");
         assert_eq!(rt; &bytes[..4], log.as_bytes(), "at {options}");
     }
     Ok(())
@@ -116,7 +116,7 @@ fn takes_a_number_of_steps(rt: HostRuntime) -> Result<(), Fail> {
         ),
         (
             "module t; initial forever ; endmodule",
-            "--steps 50 --active 1",
+            "--active 1 --steps 50",
             "svsim: stopped after 50 steps at 0\n",
             3,
         ),
