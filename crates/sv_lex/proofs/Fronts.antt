@@ -1,11 +1,12 @@
 -- Laws of the longest front that passes a test.
-use Rattle.std.proofs.Common.{◌≡◌, ℕ, get_or, zero, suc, ◌+◌, ◌-◌, ◌<◌, ◌≤◌, ◌⊎◌, max, Bool, true, false, cond, ◌&&◌, ◌||◌, eqb, List, [], ◌∷◌, length, take, drop, refl, sym, ap, ◌∙◌, ⊎_elim, inl, inr, arith}
+use Rattle.std.proofs.Common.{◌≡◌, ℕ, get_or, zero, suc, ◌+◌, ◌-◌, ◌<◌, ◌≤◌, ◌⊎◌, max, Bool, true, false, not, cond, ◌&&◌, ◌||◌, eqb, List, [], ◌∷◌, length, take, drop, refl, sym, ap, ◌∙◌, ⊎_elim, inl, inr, arith}
 use Rattle.std.specs.List.{list_all, prefix_len, starts_with}
 use Rattle.std.proofs.lemmas.Bool.{ne_eqb, eq-eqb, cases_lt}
 use Rattle.std.proofs.lemmas.List.{take_all, take_rest}
 use Rattle.std.specs.Prelude.{◌==◌, nat_eq}
 use Rattle.sv_tree.specs.Tokens.{is_nil, is_one, is_after, is_word}
 use Rattle.sv_tree.specs.Longest.{longest, longest_within, grown}
+use Rattle.sv_lex.specs.FirstBytes.{begin_apart}
 
 grown-suc : (b : Bool) (n : ℕ) → suc (suc n) ≡ grown b (suc n)
 grown-suc true n = refl
@@ -218,6 +219,31 @@ longest-is_word (x ∷ ws) (c ∷ cs) =
     longest-first (is_word (x ∷ ws)) (is_word ws) (nat_eq x c) c (λ w. refl) cs
     ∙ ap (λ n. cond (nat_eq x c) n 0) (ap (grown (is_word ws [])) (longest-is_word ws cs) ∙ grow_word ws cs)
     ∙ cond_and (nat_eq x c) (starts_with nat_eq cs ws) (suc (length ws))
+
+-- a word does not stand where a text begins with another byte
+pub no_front : (word s : List ℕ) → begin_apart word s ≡ true → longest (is_word word) s ≡ 0
+no_front [] s e = absurd cc
+no_front (x ∷ ws) [] e = absurd cc
+no_front (x ∷ ws) (c ∷ cs) e =
+    longest-first (is_word (x ∷ ws)) (is_word ws) (nat_eq x c) c (λ w. refl) cs ∙ ap (λ b. cond b (grown (is_word ws []) (longest (is_word ws) cs)) 0) (differ (nat_eq x c) e)
+  where
+    differ : (b : Bool) → not b ≡ true → b ≡ false
+    differ true h = absurd cc
+    differ false h = refl
+
+pub apart : (word s : List ℕ) → 1 ≤ length word → 1 ≤ length s → begin_apart word s ≡ not (first word == first s)
+apart [] s h k = absurd (omega arith)
+apart (x ∷ ws) [] h k = absurd (omega arith)
+apart (x ∷ ws) (c ∷ cs) h k = refl
+
+pub apart_from_none : (word s : List ℕ) → length s < 1 → begin_apart word s ≡ false
+apart_from_none [] s h = refl
+apart_from_none (x ∷ ws) [] h = refl
+apart_from_none (x ∷ ws) (c ∷ cs) h = absurd (omega arith)
+
+pub none_apart : (word s : List ℕ) → length word < 1 → begin_apart word s ≡ false
+none_apart [] s h = refl
+none_apart (x ∷ ws) s h = absurd (omega arith)
 
 -- what the code knows: a number n of bytes that pass, and the m bytes that another test reads after them
 pub run_then : (p q : List ℕ → Bool) (f : ℕ → Bool) → ((s : List ℕ) → longest p s ≡ over (prefix_len f s) (longest q (drop (prefix_len f s) s))) → (s : List ℕ) (n m : ℕ)

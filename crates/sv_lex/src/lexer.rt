@@ -2,6 +2,8 @@
 
 ghost use Rattle.std.specs.Prelude.{◌≡◌, ℕ, ◌≤◌, ◌<◌, ◌+◌, ◌-◌, ◌^◌, length, take, drop, IfOk, IfErr};
 ghost use Rattle.sv_tree.specs.Lexing.{Lexes, lex_fault, scales, start, after, token_of, end_of_text, reading, keeps_text};
+ghost use Rattle.sv_tree.specs.Codes.{toks};
+ghost use Rattle.sv_tree.specs.Closed.{IsClosed};
 ghost use Rattle.sv_lex.specs.Going.{joined, moved};
 ghost use Rattle.sv_lex.specs.Answers.{Told};
 ghost use Rattle.sv_lex.specs.declared.lexer.LexFault.TheVariants.{Memory};
@@ -176,6 +178,7 @@ fn end_of_text(alloc: Global, at: Place) -> Token
 pub fn lex(alloc: Global, file: u16, text: &[u8]) -> Result<Lexed, LexFault>
     requires { length text.now ≤ 2 ^ 23 }
     ensures tokens { IfOk result (λ l. Lexes file text.now l.tokens.items) }
+    ensures closed { IfOk result (λ l. IsClosed (toks l.tokens.items)) }
     ensures scales { IfOk result (λ l. l.scales.items ≡ scales file text.now) }
     ensures fault { IfErr result (λ e. Told e (lex_fault file text.now)) }
 {

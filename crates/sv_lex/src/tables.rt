@@ -4,16 +4,36 @@ ghost use Rattle.std.specs.Prelude.{◌≡◌, ◌≤◌, length, map};
 ghost use Rattle.std.specs.List.{list_any};
 ghost use Rattle.sv_tree.specs.Longest.{longest};
 ghost use Rattle.sv_tree.specs.Tokens.{is_word, is_spelled, spelled, kind_of_name, plain_word, words, signs, unused};
+ghost use Rattle.sv_lex.specs.FirstBytes.{begin_apart, is_alone};
 
 use crate::letters::is_word_part;
 use sv_tree::{Kind, SIGNS, UNUSED, WORDS};
 
+/// Whether two texts begin with different bytes.
+#[tactic(auto, using(crate::proofs::Fronts::apart, crate::proofs::Fronts::apart_from_none, crate::proofs::Fronts::none_apart))]
+fn begin_apart(word: &[u8], s: &[u8]) -> bool
+    ensures { result ≡ begin_apart word.now s.now }
+{
+    match word {
+        [x, ..] => {
+            match s {
+                [y, ..] => *x != *y,
+                [] => false,
+            }
+        }
+        [] => false,
+    }
+}
+
 /// The length of a word, where it stands at the front.
-#[tactic(auto, using(crate::proofs::Fronts::longest_word))]
+#[tactic(auto, using(crate::proofs::Fronts::longest_word, crate::proofs::Fronts::no_front))]
 fn word_length(word: &[u8], s: &[u8]) -> usize
     ensures value { result ≡ longest (is_word word.now) s.now }
     ensures within { result ≤ length s.now }
 {
+    if begin_apart(word, s) {
+        return 0;
+    }
     if s.starts_with(word) { word.len() } else { 0 }
 }
 
@@ -67,8 +87,22 @@ pub fn signs() -> &'static [(&'static str, Kind)]
     &SIGNS
 }
 
+/// Whether a byte is an operator that begins no other.
+fn is_alone(c: u8) -> bool
+    ensures { result ≡ is_alone c }
+{
+    c == b';'
+        || c == b','
+        || c == b'('
+        || c == b')'
+        || c == b'['
+        || c == b']'
+        || c == b'{'
+        || c == b'}'
+}
+
 /// The length of the longest operator at the front, or 0. None begins with a letter, a digit or `_`.
-#[tactic(auto, using(crate::proofs::Fronts::longest_short, crate::proofs::SignLaws::no_sign))]
+#[tactic(auto, using(crate::proofs::Fronts::longest_short, crate::proofs::SignLaws::no_sign, crate::proofs::SignLaws::one_sign))]
 pub fn sign_length(s: &[u8]) -> usize
     ensures value { result ≡ longest (is_spelled signs) s.now }
     ensures within { result ≤ length s.now }
@@ -77,6 +111,9 @@ pub fn sign_length(s: &[u8]) -> usize
         [c, ..] => {
             if is_word_part(*c) {
                 return 0;
+            }
+            if is_alone(*c) {
+                return 1;
             }
             spelled_length(signs(), s)
         }
@@ -103,11 +140,14 @@ fn plain_word(word: &[u8]) -> Kind
     }
 }
 
-/// A reserved word, or a name.
-#[tactic(auto, unfolding(sv_tree::specs::Tokens::kind_of_name))]
+/// A reserved word, or a name. No reserved word has one byte.
+#[tactic(auto, unfolding(sv_tree::specs::Tokens::kind_of_name), using(crate::proofs::WordLaws::name_of_one))]
 pub fn kind_of_name(word: &[u8]) -> Kind
     ensures { result ≡ kind_of_name word.now }
 {
+    if word.len() == 1 {
+        return Kind::Name;
+    }
     match kind_in(words(), word) {
         Some(kind) => kind,
         None => plain_word(word),

@@ -2,6 +2,7 @@ use Rattle.std.proofs.Common.{length, arith}
 use Rattle.sv_tree.specs.Lexing.{reading}
 use Rattle.sv_lex.specs.Going.{joined}
 use Rattle.sv_lex.proofs.Steps.{lexes_end, scales_end}
+use Rattle.sv_lex.proofs.Ends.{lexed_closed}
 use Rattle.sv_lex.proofs.lexer.lex.Goals as goal
 
 pub loop-i-init : goal.loop-i-init
@@ -16,6 +17,12 @@ pub returns-clause-tokens : goal.returns-clause-tokens
 returns-clause-tokens c =
     lexes_end c.args.file c.args.text.now c.loop-i.tokens.items c.push.new.self.items c.loop-i.scales.items c.loop-i.at c.loop-i.i c.end_of_text.result
     c.loop-i-test.false c.loop-i.invariant.same c.in_ok-push.ensures.items c.end_of_text.ensures
+
+pub returns-clause-closed : goal.returns-clause-closed
+returns-clause-closed c =
+    lexed_closed c.args.file c.args.text.now c.push.new.self.items
+    (lexes_end c.args.file c.args.text.now c.loop-i.tokens.items c.push.new.self.items c.loop-i.scales.items c.loop-i.at c.loop-i.i c.end_of_text.result
+    c.loop-i-test.false c.loop-i.invariant.same c.in_ok-push.ensures.items c.end_of_text.ensures)
 
 pub returns-clause-scales : goal.returns-clause-scales
 returns-clause-scales c =

@@ -1,6 +1,5 @@
-use Rattle.std.proofs.Common.{◌≡◌, ◌≤◌, List, length, ℕ, sym, ap, ◌∙◌, arith}
+use Rattle.std.proofs.Common.{◌≡◌, ◌≤◌, List, length, ℕ, sym, ◌∙◌, arith}
 use Rattle.sv_tree.specs.Longest.{longest}
-use Rattle.sv_tree.specs.Tokens.{is_spelled}
 use Rattle.sv_tree.specs.Lexing.{is_token}
 use Rattle.sv_lex.proofs.Fronts.{longest-le}
 use Rattle.sv_lex.proofs.Chosen.{longest_is, chosen_is, number_passes, kind_of_nothing, number_of_nothing}

@@ -1,0 +1,16 @@
+-- What the first byte of a text tells.
+use Rattle.std.specs.Prelude.{ℕ, Bool, false, not, List, ◌∷◌, ◌==◌, codes}
+use Rattle.std.specs.List.{list_any}
+
+-- two texts begin with different bytes
+abbrev pub begin_apart : List ℕ → List ℕ → Bool
+begin_apart (x ∷ xs) (y ∷ ys) = not (x == y)
+begin_apart xs ys = false
+
+-- each of these is an operator, and begins no other
+abbrev pub alone : List ℕ
+alone = codes ";,()[]{}"
+
+-- one of these
+abbrev pub is_alone : ℕ → Bool
+is_alone c = list_any (λ y. c == y) alone
