@@ -1,0 +1,14 @@
+pub mod Lows
+pub mod ImpliedLaws
+pub mod ParamLaws
+pub mod PortLaws
+pub mod RoutineLaws
+pub mod AppliedLaws
+pub mod ClockingLaws
+pub mod ClassLaws
+pub mod InstanceLaws
+pub mod NetLaws
+pub mod ItemLaws
+pub mod UnitLaws
+pub mod UnitLoops
+pub mod Exact
