@@ -20,6 +20,7 @@ use Rattle.sv_tree.specs.Stmt as stmts
 use Rattle.sv_tree.specs.Units as units
 use Rattle.svsim.specs.Format.{format_of}
 use Rattle.svsim.specs.Terms.{variable_named, literal}
+use Rattle.svsim.specs.Scales.{default_scale}
 use Rattle.svsim.specs.Form.{design_of_module}
 
 -- ---- trees
@@ -74,7 +75,7 @@ module_of is = record { at = here; is_program = false; life = life.Unwritten; na
 
 -- the log of a module under a list of the Active side
 abbrev log : List ℕ → List units.Item → Option (List ℕ)
-log active is = option_map (λ (d : Parts). log_text true (directed d (Listed active) (Listed []) 40)) (design_of_module (module_of is))
+log active is = option_map (λ (d : Parts). log_text true (directed d (Listed active) (Listed []) 40)) (design_of_module default_scale (module_of is))
 
 -- ---- files
 

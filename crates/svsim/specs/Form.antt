@@ -1,5 +1,6 @@
 -- The form of the files that run today, over their trees, and their flat designs: one module of variables and `initial` procedures.
 use Rattle.std.specs.Prelude.{ℕ, zero, suc, Bool, true, false, not, ◌==◌, ◌&&◌, List, [], ◌∷◌, ◌++◌, Option, None, Some, length, is_none, option_and_then, option_map, if◌then◌else◌}
+use Rattle.std.specs.List.{list_any}
 use Rattle.sv_value.specs.declared.number.RoutineId.{RoutineId}
 use Rattle.sv_value.specs.declared.place.Place.{Place}
 use Rattle.sv_value.specs.declared.schedule.Side.TheVariants.{Active}
@@ -11,10 +12,13 @@ use Rattle.sv_flat.specs.declared.stmt.Stmt.{Stmt}
 use Rattle.sv_flat.specs.declared.stmt.Form.{Form}
 use Rattle.sv_flat.specs.declared.stmt.Form.TheVariants as form
 use Rattle.sv_flat.specs.declared.design.Parts.{Parts}
+use Rattle.sv_flat.specs.declared.design.Scale.{Scale}
+use Rattle.sv_tree.specs.declared.token.Timescale.{Timescale}
 use Rattle.sv_tree.specs.declared.word.Name.{Name}
 use Rattle.sv_tree.specs.declared.word.Procedure.TheVariants as procedure
 use Rattle.sv_tree.specs.Stmt as stmts
 use Rattle.sv_tree.specs.Units as units
+use Rattle.svsim.specs.Scales.{scale_set}
 use Rattle.svsim.specs.Simple.{simple, delayed, awaited}
 use Rattle.svsim.specs.Terms.{expression}
 use Rattle.svsim.specs.Variables.{declared, is_unwritten}
@@ -96,7 +100,7 @@ block_added os n at ss b = option_map (λ inner. with_routine at b.stmts (form.B
 
 -- at most this many statements stand on a path
 abbrev pub MOST_DEPTH : ℕ
-MOST_DEPTH = 100
+MOST_DEPTH = 200
 
 -- the objects, the processes and the routines so far
 pub record Items : Type 0 where
@@ -143,16 +147,16 @@ abbrev pub with_items : (unit : List ℕ) → List units.Item → Items → Opti
 with_items unit [] items = Some items
 with_items unit (i ∷ is) items = option_and_then (with_items unit is) (with_item unit i items)
 
--- the design of a module of this name; the default time scale is `1ns/1ns`
-abbrev pub design_with : (unit : List ℕ) → Items → Parts
-design_with unit items = record {
+-- the design of a module of this name
+abbrev pub design_with : Scale → (unit : List ℕ) → Items → Parts
+design_with scale unit items = record {
   objects = items.objects;
   processes = items.processes;
   classes = [];
   routines = items.routines;
   clockings = [];
   instances = record { path = unit ∷ []; is_program = false } ∷ [];
-  scale = record { unit = 6; precision = 6 };
+  scale = scale;
 }
 
 -- a module without ports, parameters and label
@@ -160,6 +164,22 @@ abbrev pub is_plain : units.Program → Bool
 is_plain m = not m.is_program && is_unwritten m.life && is_none m.params && length m.ports == 0 && is_none m.label
 
 -- the design of such a module
-abbrev pub design_of_module : units.Program → Option Parts
-design_of_module m =
-    if is_plain m then option_map (design_with m.name.text) (with_items m.name.text m.items (record { objects = []; processes = []; routines = [] })) else None
+abbrev pub design_of_module : Scale → units.Program → Option Parts
+design_of_module scale m =
+    if is_plain m then option_map (design_with scale m.name.text) (with_items m.name.text m.items (record { objects = []; processes = []; routines = [] })) else None
+
+-- ---- files
+
+-- a module or a program
+abbrev pub is_unit : units.Description → Bool
+is_unit (units.Instantiable m) = true
+is_unit (units.Outside i) = false
+
+-- there is a module or a program
+abbrev pub has_unit : List units.Description → Bool
+has_unit us = list_any is_unit us
+
+-- the design of a file with these time scales and units, if the one unit is a module of today's form
+abbrev pub design_of : List Timescale → List units.Description → Option Parts
+design_of ts (units.Instantiable m ∷ []) = option_and_then (λ scale. design_of_module scale m) (scale_set ts)
+design_of ts us = None

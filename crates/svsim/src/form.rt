@@ -1,20 +1,21 @@
 // From the trees of a file to its design, for the form of file that runs today.
 ghost use Rattle.std.specs.Prelude.{◌≡◌, ◌++◌, ◌∷◌, [], List, ℕ, IfOk, map};
 ghost use Rattle.sv_tree.specs.StmtView.{stmt as stmt_tree, decl as decl_tree};
-ghost use Rattle.sv_tree.specs.UnitView.{item as item_tree, program as program_tree};
-ghost use Rattle.svsim.specs.Form.{process, with_decl, with_procedure, with_item, with_items, is_plain, design_with, design_of_module};
+ghost use Rattle.sv_tree.specs.UnitView.{item as item_tree, program as program_tree, unit as unit_tree};
+ghost use Rattle.svsim.specs.Form.{process, with_decl, with_procedure, with_item, with_items, is_plain, is_unit, has_unit, design_with, design_of_module, design_of};
 ghost use Rattle.svsim.specs.Reading.{Gives, Adds, items};
 
 use crate::front::FrontFault;
+use crate::scales::scale_set;
 use crate::statements::{add, close};
 use crate::variables::declare;
 use std::alloc::{AllocError, Global};
 use sv_flat::{Instance, Object, Parts, Process, ProcessKind, Routine, Scale};
-use sv_tree::{Decl, Item, Life, Procedure, Program, Stmt};
+use sv_tree::{Decl, Item, Life, Procedure, Program, Stmt, Timescale, Unit};
 use sv_value::{Place, RoutineId, Seq, Side};
 
 /// How many statements may stand on a path.
-const MOST_DEPTH: u32 = 100;
+const MOST_DEPTH: u32 = 200;
 
 /// The path that has this name alone.
 fn path(alloc: Global, name: &[u8]) -> Result<Seq<Seq<u8>>, AllocError>
@@ -130,12 +131,13 @@ fn is_plain(unit: &Program) -> bool
 /// The parts of a module of this name.
 fn parts_with(
     alloc: Global,
+    scale: Scale,
     name: &[u8],
     objects: Vec<Object>,
     processes: Vec<Process>,
     routines: Vec<Routine>,
 ) -> Result<Parts, AllocError>
-    ensures { IfOk result (λ d. d ≡ design_with name.now (items objects.items processes.items routines.items)) }
+    ensures { IfOk result (λ d. d ≡ design_with scale name.now (items objects.items processes.items routines.items)) }
 {
     let mut instances = Vec::new(alloc);
     instances.push(Instance {
@@ -149,16 +151,13 @@ fn parts_with(
         routines: Seq::from_vec(routines),
         clockings: Seq::new(alloc),
         instances: Seq::from_vec(instances),
-        scale: Scale {
-            unit: 6,
-            precision: 6,
-        },
+        scale,
     })
 }
 
-/// What the design of a module is made of, if it has the form that runs today.
-pub fn parts_of(alloc: Global, unit: &Program) -> Result<Parts, FrontFault>
-    ensures { Gives (λ d. d) result (design_of_module (program_tree unit.now)) }
+/// What the design of a module is made of, if the module has the form that runs today.
+fn module_parts(alloc: Global, scale: Scale, unit: &Program) -> Result<Parts, FrontFault>
+    ensures { Gives (λ d. d) result (design_of_module scale (program_tree unit.now)) }
 {
     if !is_plain(unit) {
         return Err(FrontFault::NotYet);
@@ -175,5 +174,40 @@ pub fn parts_of(alloc: Global, unit: &Program) -> Result<Parts, FrontFault>
         &mut processes,
         &mut routines,
     )?;
-    Ok(parts_with(alloc, name, objects, processes, routines)?)
+    Ok(parts_with(alloc, scale, name, objects, processes, routines)?)
+}
+
+/// Whether a unit is a module or a program.
+fn is_unit(unit: &Unit) -> bool
+    ensures { result ≡ is_unit (unit_tree unit.now) }
+{
+    match unit {
+        Unit::Module(_) => true,
+        Unit::Item(_) => false,
+    }
+}
+
+/// Whether there is a module or a program.
+pub fn has_unit(units: &[Unit]) -> bool
+    ensures { result ≡ has_unit (map unit_tree units.now) }
+{
+    for unit in units {
+        if is_unit(unit) {
+            return true;
+        }
+    }
+    false
+}
+
+/// What the design of a file is made of, if the file has the form that runs today.
+pub fn parts_of(alloc: Global, scales: &[Timescale], units: &[Unit]) -> Result<Parts, FrontFault>
+    ensures { Gives (λ d. d) result (design_of scales.now (map unit_tree units.now)) }
+{
+    let [Unit::Module(module)] = units else {
+        return Err(FrontFault::NotYet);
+    };
+    let Some(scale) = scale_set(scales) else {
+        return Err(FrontFault::NotYet);
+    };
+    module_parts(alloc, scale, module)
 }

@@ -1,31 +1,35 @@
 // From the text of a file to its design.
-ghost use Rattle.std.specs.Prelude.{◌≡◌, ◌≤◌, ◌^◌, IfOk, IfErr, length};
-ghost use Rattle.sv_flat.specs.declared.design.Parts.{Parts};
-ghost use Rattle.sv_tree.specs.Codes.{toks};
-ghost use Rattle.sv_tree.specs.UnitView.{program as program_tree};
-ghost use Rattle.svsim.specs.Reading.{Gives, IsFormFault};
-ghost use Rattle.svsim.specs.Source.{IsSource, IsSpelled, Explains, refusal_text, spelled};
+ghost use Rattle.std.specs.Prelude.{◌≡◌, ◌≤◌, ◌^◌, IfOk, IfErr, length, map};
+ghost use Rattle.sv_tree.specs.UnitView.{unit as unit_tree};
+ghost use Rattle.svsim.specs.Source.{IsSource, IsDesign, Declines, Explains, of_lexical, of_syntax, refusal_text, syntax_text};
 ghost use Rattle.svsim.specs.declared.front.FrontFault.TheVariants.{Memory};
 
-use crate::form::parts_of;
-use crate::module::file;
+use crate::form::{has_unit, parts_of};
 use std::alloc::{AllocError, AllocFailed, Global};
 use sv_flat::{Design, is_built};
 use sv_lex::{LexFault, lex};
-use sv_parse_expr::ReadError;
-use sv_tree::{Program, Refused, Token};
+use sv_parse_expr::{SyntaxFault, SyntaxKind};
+use sv_parse_unit::parse;
+use sv_tree::{Refused, Timescale, Unit};
 use sv_value::Place;
 use thiserror::Error;
 
 /// Why a file has no design.
 #[derive(Clone, Copy, Debug, PartialEq, Eq, Error)]
 pub enum FrontFault {
-    /// It has no token at a place (IEEE 1800-2017, 5).
-    #[error("refused")]
-    Refused { at: Place, what: Refused },
+    /// No token can be read at a place (IEEE 1800-2017, 5).
+    #[error("{kind}")]
+    Lexical { at: Place, kind: Refused },
+    /// No file goes on with the token at a place, or only files that are too deep (A.1).
+    #[error("{kind}")]
+    Syntax { at: Place, kind: SyntaxKind },
+    /// There is no module and no program, so no design has a root (23.3.1).
+    #[error("E4")]
+    NoRoot,
     /// It has another form than those that run today.
     #[error("not yet")]
     NotYet,
+    /// Memory ran out.
     #[error("out of memory")]
     Memory,
 }
@@ -46,14 +50,33 @@ impl<T: Drop> From<AllocFailed<T>> for FrontFault {
     }
 }
 
-/// How deep a tree may be.
-const MOST_TREE_DEPTH: u32 = 200;
+impl From<LexFault> for FrontFault {
+    ghost from_gives = { λ fault e. e ≡ of_lexical fault };
 
-/// What a refusal is called in the closing line.
-pub fn refusal_text(what: Refused) -> &'static str
-    ensures { result.now ≡ refusal_text what }
+    fn from(fault: LexFault) -> Self {
+        match fault {
+            LexFault::Memory => FrontFault::Memory,
+            LexFault::Bad { at, kind } => FrontFault::Lexical { at, kind },
+        }
+    }
+}
+
+impl From<SyntaxFault> for FrontFault {
+    ghost from_gives = { λ fault e. e ≡ of_syntax fault };
+
+    fn from(fault: SyntaxFault) -> Self {
+        match fault {
+            SyntaxFault::Memory => FrontFault::Memory,
+            SyntaxFault::Bad { at, kind } => FrontFault::Syntax { at, kind },
+        }
+    }
+}
+
+/// What a lexical fault is called in the closing line.
+pub fn refusal_text(kind: Refused) -> &'static str
+    ensures { result.now ≡ refusal_text kind }
 {
-    match what {
+    match kind {
         Refused::BadByte => "bad byte",
         Refused::OpenText => "open text",
         Refused::OpenComment => "open comment",
@@ -63,26 +86,25 @@ pub fn refusal_text(what: Refused) -> &'static str
     }
 }
 
-/// The module that tokens spell.
-fn module_of(alloc: Global, tokens: &[Token]) -> Result<Program, FrontFault>
-    ensures { Gives program_tree result (spelled (toks tokens.now)) }
+/// What a syntax fault is called in the closing line.
+pub fn syntax_text(kind: SyntaxKind) -> &'static str
+    ensures { result.now ≡ syntax_text kind }
 {
-    match file(alloc, tokens, MOST_TREE_DEPTH) {
-        Ok((module, [])) => Ok(module),
-        Ok(_) => Err(FrontFault::NotYet),
-        Err(ReadError::Memory) => Err(FrontFault::Memory),
-        Err(_) => Err(FrontFault::NotYet),
+    match kind {
+        SyntaxKind::Unexpected => "unexpected token",
+        SyntaxKind::Depth => "too deep",
     }
 }
 
-/// The design of tokens, if they have the form that runs today.
-fn read_tokens(alloc: Global, tokens: &[Token]) -> Result<Design, FrontFault>
-    ensures design { IfOk result (λ d. IsSpelled (toks tokens.now) d) }
-    ensures not_yet { result ≡ Err FrontFault.NotYet → (d : Parts) → IsSpelled (toks tokens.now) d → ⊥ }
-    ensures no_place { IfErr result IsFormFault }
+/// The design of the units of a file, or why they have none.
+fn design_of(alloc: Global, scales: &[Timescale], units: &[Unit]) -> Result<Design, FrontFault>
+    ensures design { IfOk result (λ d. IsDesign scales.now (map unit_tree units.now) d) }
+    ensures none { IfErr result (Declines scales.now (map unit_tree units.now)) }
 {
-    let module = module_of(alloc, tokens)?;
-    let parts = parts_of(alloc, &module)?;
+    if !has_unit(units) {
+        return Err(FrontFault::NoRoot);
+    }
+    let parts = parts_of(alloc, scales, units)?;
     if !is_built(&parts) {
         return Err(FrontFault::NotYet);
     }
@@ -95,9 +117,7 @@ pub fn read_design(alloc: Global, text: &[u8]) -> Result<Design, FrontFault>
     ensures design { IfOk result (λ d. IsSource text.now d) }
     ensures fault { IfErr result (Explains text.now) }
 {
-    match lex(alloc, 0, text) {
-        Ok(lexed) => read_tokens(alloc, &lexed.tokens),
-        Err(LexFault::Bad { at, kind }) => Err(FrontFault::Refused { at, what: kind }),
-        Err(LexFault::Memory) => Err(FrontFault::Memory),
-    }
+    let lexed = lex(alloc, 0, text)?;
+    let units = parse(alloc, &lexed.tokens)?;
+    design_of(alloc, &lexed.scales, &units)
 }

@@ -1,9 +1,14 @@
 // What whole calls put and answer, over files and logs in memory.
+ghost use Rattle.std.specs.Prelude.{◌≤◌, length};
+
 use crate::front::read_design;
 use crate::simulate::simulate;
 use std::alloc::{AllocError, Global};
 use std::test::Fail;
 use sv_io::{GoodShelf, GoodSink, MemShelf, MemSink};
+use sv_lex::lex;
+use sv_tree::{Kind, Token};
+use sv_value::Place;
 
 fn words_of(alloc: Global, all: &[&str]) -> Result<Vec<String>, AllocError> {
     let mut words = Vec::new(alloc);
@@ -71,6 +76,14 @@ fn runs_files(rt: HostRuntime) -> Result<(), Fail> {
             "module t; logic a; bit b; initial begin if (a == 1) ; else $display(\"unknown\"); if (a === 1'bx) $display(\"x\"); b = a; $display(\"%b%b\", a, b); end endmodule",
             "unknown\nx\nx0\nsvsim: done at 0\n",
         ),
+        (
+            "`timescale 1ns/1ps\nmodule t; initial #5 $display(\"x\"); endmodule",
+            "x\nsvsim: done at 5000\n",
+        ),
+        (
+            "`timescale 10us / 1us\n`timescale 10us/1us\nmodule t; initial #5 $display(\"x\"); endmodule",
+            "x\nsvsim: done at 50\n",
+        ),
     ] {
         let (bytes, status) = run(alloc, text.as_bytes())?;
         assert_eq!(rt; status, 0, "at {text}");
@@ -128,48 +141,75 @@ fn takes_a_number_of_steps(rt: HostRuntime) -> Result<(), Fail> {
     Ok(())
 }
 
+/// The closing line of a file that is refused so.
+fn refused(alloc: Global, place: &str, what: &str) -> Result<String, AllocError> {
+    format!(in alloc; "svsim: a.sv:{place}: refused: {what}\n")
+}
+
 #[test]
 fn tells_where_no_token_is(rt: HostRuntime) -> Result<(), Fail> {
     let alloc = rt.alloc();
-    for (text, log) in [
+    for (text, place, what) in [
         (
             b"module t; initial $display(\"hi".as_slice(),
-            "svsim: a.sv:1:28: refused: open text\n",
+            "1:28",
+            "open text",
         ),
-        (
-            b"module t; /* x",
-            "svsim: a.sv:1:11: refused: open comment\n",
-        ),
-        (
-            b"module t; int a = 4'b2; endmodule",
-            "svsim: a.sv:1:19: refused: bad literal\n",
-        ),
-        (b"`define A", "svsim: a.sv:1:1: refused: bad directive\n"),
+        (b"module t; /* x", "1:11", "open comment"),
+        (b"module t; int a = 4'b2; endmodule", "1:19", "bad literal"),
+        (b"`define A", "1:1", "bad directive"),
         (
             b"module t;\n initial $display(\"a\\q\"); endmodule",
-            "svsim: a.sv:2:19: refused: bad byte\n",
+            "2:19",
+            "bad byte",
         ),
-        (
-            b"module t; endmodule\0",
-            "svsim: a.sv:1:20: refused: bad byte\n",
-        ),
+        (b"module t; endmodule\0", "1:20", "bad byte"),
     ] {
         let (bytes, status) = run(alloc, text)?;
+        let said = refused(alloc, place, what)?;
         assert_eq!(rt; status, 1, "at {text:?}");
-        assert_eq!(rt; bytes.as_slice(), log.as_bytes(), "at {text:?}");
+        assert_eq!(rt; bytes.as_slice(), said.as_bytes(), "at {text:?}");
     }
     Ok(())
 }
 
 #[test]
-fn refuses_other_files(rt: HostRuntime) -> Result<(), Fail> {
+fn tells_the_first_token_that_does_not_fit(rt: HostRuntime) -> Result<(), Fail> {
+    let alloc = rt.alloc();
+    for (text, place) in [
+        ("module", "1:7"),
+        (
+            "module t; initial begin $display(\"hi\") end endmodule",
+            "1:40",
+        ),
+        ("module t; initial $display(\"hi\") endmodule", "1:34"),
+        ("module t; initial $display(\"hi\"); endmodule x", "1:45"),
+        (
+            "module t; initial $display(\"hi\"); endmodule endmodule",
+            "1:45",
+        ),
+        ("module t; initial begin a = 1; b c; end endmodule", "1:34"),
+        (
+            "module t;\n  initial begin\n    a = 1\n  end\nendmodule",
+            "4:3",
+        ),
+        ("module wire; initial ; endmodule", "1:8"),
+        ("module t; initial begin ; endmodule", "1:27"),
+        ("module t; initial endmodule", "1:19"),
+        ("module t initial ; endmodule", "1:10"),
+    ] {
+        let (bytes, status) = run(alloc, text.as_bytes())?;
+        let said = refused(alloc, place, "unexpected token")?;
+        assert_eq!(rt; status, 1, "at {text}");
+        assert_eq!(rt; bytes.as_slice(), said.as_bytes(), "at {text}");
+    }
+    Ok(())
+}
+
+#[test]
+fn tells_files_of_another_form(rt: HostRuntime) -> Result<(), Fail> {
     let alloc = rt.alloc();
     for text in [
-        "",
-        "module",
-        "module t; initial $display(\"hi\") endmodule",
-        "module t; initial $display(\"hi\"); endmodule x",
-        "module t; initial $display(\"hi\"); endmodule endmodule",
         "module t; initial $display(\"a%d\"); endmodule",
         "module t; initial $display(\"%%\"); endmodule",
         "module t; initial $display(\"a%\"); endmodule",
@@ -179,10 +219,6 @@ fn refuses_other_files(rt: HostRuntime) -> Result<(), Fail> {
         "module t; initial #1234567890 ; endmodule",
         "module t; initial #1ns ; endmodule",
         "module t; initial #1_0 ; endmodule",
-        "module wire; initial ; endmodule",
-        "module t; initial begin ; endmodule",
-        "module t; initial endmodule",
-        "module t initial ; endmodule",
         "module t; initial ; int a; endmodule",
         "module t; reg a; endmodule",
         "module t; logic signed a; endmodule",
@@ -206,6 +242,12 @@ fn refuses_other_files(rt: HostRuntime) -> Result<(), Fail> {
         "module t; int a; initial $display(\"%0d\", 1); endmodule",
         "module t; initial x: ; endmodule",
         "module t; initial begin : x end endmodule",
+        "module t; endmodule : t",
+        "module t; endmodule module u; endmodule",
+        "module t; endmodule ;",
+        "program t; endprogram",
+        "`timescale 1ns/1ps\nmodule t; endmodule\n`timescale 1ns/1ns\n",
+        "`timescale 1ps/1ns\nmodule t; endmodule",
     ] {
         let (bytes, status) = run(alloc, text.as_bytes())?;
         assert_eq!(rt; status, 1, "at {text}");
@@ -218,14 +260,160 @@ fn refuses_other_files(rt: HostRuntime) -> Result<(), Fail> {
     Ok(())
 }
 
-/// A file with a procedure of so many statements on a path, that prints a text of so many bytes.
-fn file_of(alloc: Global, depth: usize, length: usize) -> Result<Vec<u8>, AllocError> {
+#[test]
+fn tells_files_without_a_root(rt: HostRuntime) -> Result<(), Fail> {
+    let alloc = rt.alloc();
+    for text in [
+        "",
+        "\n // nothing\n",
+        ";",
+        ";;;",
+        "typedef int t; class c; endclass",
+    ] {
+        let (bytes, status) = run(alloc, text.as_bytes())?;
+        assert_eq!(rt; status, 1, "at {text}");
+        assert_eq!(rt;
+            bytes.as_slice(),
+            b"svsim: a.sv:1:1: refused: E4\n".as_slice(),
+            "at {text}"
+        );
+    }
+    Ok(())
+}
+
+/// A flip-flop, and a program that samples it.
+const FLOP: &str = "module top;
+  logic clk = 0;
+  always #5 clk = ~clk;
+  logic [7:0] q = 0;
+  always_ff @(posedge clk) q <= q + 1;
+  test t(.clk, .q);
+endmodule
+program test(input logic clk, input logic [7:0] q);
+  clocking cb @(posedge clk);
+    input q;
+  endclocking
+  initial repeat (2) begin
+    @(cb);
+    $display(\"%0t %0d\", $time, cb.q);
+  end
+endprogram
+";
+
+/// How many bytes of a text stand before a place.
+fn bytes_before(text: &[u8], at: Place) -> usize
+    ensures { result ≤ length text.now }
+{
+    let mut line = 1u32;
+    let mut col = 1u32;
+    for (i, byte) in text.iter().enumerate() {
+        if line == at.line && col == at.col {
+            return i;
+        }
+        if *byte == b'\n' {
+            line = line.saturating_add(1);
+            col = 1;
+        } else {
+            col = col.saturating_add(1);
+        }
+    }
+    text.len()
+}
+
+/// What is said of the file above, cut before a token.
+fn said_of_cut(alloc: Global, before: &Token) -> Result<String, AllocError> {
+    let line = before.at.line;
+    let col = before.at.col;
+    match before.kind {
+        Kind::Module => refused(alloc, "1:1", "E4"),
+        Kind::Program | Kind::EndOfText => refused(alloc, "1:1", "not yet"),
+        _ => format!(in alloc; "svsim: a.sv:{line}:{col}: refused: unexpected token\n"),
+    }
+}
+
+#[test]
+fn tells_where_a_cut_file_ends(rt: HostRuntime) -> Result<(), Fail> {
+    let alloc = rt.alloc();
+    let text = FLOP.as_bytes();
+    let lexed = lex(alloc, 0, text)?;
+    for token in &lexed.tokens {
+        let cut = &text[..bytes_before(text, token.at)];
+        let (bytes, status) = run(alloc, cut)?;
+        let line = token.at.line;
+        let col = token.at.col;
+        assert_eq!(rt; status, 1, "at {line}:{col}");
+        let said = said_of_cut(alloc, token)?;
+        assert_eq!(rt; bytes.as_slice(), said.as_bytes(), "at {line}:{col}");
+    }
+    Ok(())
+}
+
+/// A file with a procedure that begins with a text so often, has an inner text, and ends with another text so often.
+fn nested(
+    alloc: Global,
+    count: usize,
+    begin: &str,
+    inner: &str,
+    end: &str,
+) -> Result<Vec<u8>, AllocError> {
     let mut text = Vec::new(alloc);
     text.extend_from_slice(b"module t; initial ")?;
-    for _ in 1..depth {
-        text.extend_from_slice(b"#1 ")?;
+    for _ in 0..count {
+        text.extend_from_slice(begin.as_bytes())?;
     }
-    text.extend_from_slice(b"$display(\"")?;
+    text.extend_from_slice(inner.as_bytes())?;
+    for _ in 0..count {
+        text.extend_from_slice(end.as_bytes())?;
+    }
+    text.extend_from_slice(b" endmodule")?;
+    Ok(text)
+}
+
+#[test]
+fn tells_what_is_too_deep(rt: HostRuntime) -> Result<(), Fail> {
+    let alloc = rt.alloc();
+    for (count, begin, inner, end, log) in [
+        (199, "begin ", ";", " end", "svsim: done at 0\n"),
+        (200, "begin ", "", " end", "svsim: done at 0\n"),
+        (
+            200,
+            "begin ",
+            ";",
+            " end",
+            "svsim: a.sv:1:1219: refused: too deep\n",
+        ),
+        (
+            199,
+            "begin ",
+            "#1 ;",
+            " end",
+            "svsim: a.sv:1:1213: refused: too deep\n",
+        ),
+        (
+            198,
+            "#1 ",
+            "$display(\"x\");",
+            "",
+            "x\nsvsim: done at 198\n",
+        ),
+        (
+            199,
+            "#1 ",
+            "$display(\"x\");",
+            "",
+            "svsim: a.sv:1:624: refused: too deep\n",
+        ),
+    ] {
+        let (bytes, _) = run(alloc, &nested(alloc, count, begin, inner, end)?)?;
+        assert_eq!(rt; bytes.as_slice(), log.as_bytes(), "at {count}, {inner}");
+    }
+    Ok(())
+}
+
+/// A file that prints a text of so many bytes.
+fn printing(alloc: Global, length: usize) -> Result<Vec<u8>, AllocError> {
+    let mut text = Vec::new(alloc);
+    text.extend_from_slice(b"module t; initial $display(\"")?;
     for _ in 0..length {
         text.push(b'x')?;
     }
@@ -234,11 +422,11 @@ fn file_of(alloc: Global, depth: usize, length: usize) -> Result<Vec<u8>, AllocE
 }
 
 #[test]
-fn keeps_the_limits_of_the_form(rt: HostRuntime) -> Result<(), Fail> {
+fn keeps_the_limit_of_texts(rt: HostRuntime) -> Result<(), Fail> {
     let alloc = rt.alloc();
-    for (depth, length, expected) in [(1, 1000, 0), (1, 1001, 1), (100, 3, 0), (101, 3, 1)] {
-        let (_, status) = run(alloc, &file_of(alloc, depth, length)?)?;
-        assert_eq!(rt; status, expected, "at {depth}, {length}");
+    for (length, expected) in [(1000, 0), (1001, 1)] {
+        let (_, status) = run(alloc, &printing(alloc, length)?)?;
+        assert_eq!(rt; status, expected, "at {length}");
     }
     Ok(())
 }
@@ -271,7 +459,7 @@ fn keeps_the_limit_of_tokens(rt: HostRuntime) -> Result<(), Fail> {
     let (bytes, _) = run(alloc, &text)?;
     assert_eq!(rt;
         bytes.as_slice(),
-        b"svsim: a.sv:1:1: refused: not yet\n".as_slice()
+        b"svsim: a.sv:1:1: refused: E4\n".as_slice()
     );
     text.push(b';')?;
     let (bytes, _) = run(alloc, &text)?;

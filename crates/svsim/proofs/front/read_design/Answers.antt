@@ -1,16 +1,22 @@
-use Rattle.std.proofs.Common.{List, sym, subst}
+use Rattle.std.proofs.Common.{List, [], subst, ◌∙◌}
+use Rattle.std.specs.Prelude.{IfErr, map}
+use Rattle.sv_grammar.specs.Language.{Reads}
 use Rattle.sv_tree.specs.declared.token.Token.{Token}
-use Rattle.sv_tree.specs.Lexing.{Lexes}
-use Rattle.svsim.proofs.SaidLemmas.{if_ok_only}
-use Rattle.svsim.proofs.SourceLemmas.{source, explained}
+use Rattle.sv_tree.specs.declared.token.Timescale.{Timescale}
+use Rattle.sv_tree.specs.declared.unit.«Unit».{«Unit»}
+use Rattle.sv_tree.specs.Codes.{toks}
+use Rattle.sv_tree.specs.Grammar.{texts_of}
+use Rattle.sv_tree.specs.UnitGrammar.{file}
+use Rattle.sv_tree.specs.UnitView.{unit}
+use Rattle.svsim.specs.Source.{Declines, MOST_TREE_DEPTH}
+use Rattle.svsim.proofs.SourceLemmas.{all_explained}
 use Rattle.svsim.proofs.front.read_design.Goals as goal
 
-pub returns-in-Ok-clause-design : goal.returns-in-Ok-clause-design
-returns-in-Ok-clause-design c =
-    let lexes : Lexes 0 c.args.text.now c.deref.result.now = subst (λ (ts : List Token). Lexes 0 c.args.text.now ts) (sym c.deref.ensures.value) c.in-Ok.ensures.tokens in
-    if_ok_only c.read_tokens.result _ _ (λ d s. source c.args.text.now c.deref.result.now d lexes s) c.read_tokens.ensures.design
-
-pub returns-in-Ok-clause-fault : goal.returns-in-Ok-clause-fault
-returns-in-Ok-clause-fault c =
-    let lexes : Lexes 0 c.args.text.now c.deref.result.now = subst (λ (ts : List Token). Lexes 0 c.args.text.now ts) (sym c.deref.ensures.value) c.in-Ok.ensures.tokens in
-    explained c.read_tokens.result c.args.text.now c.deref.result.now lexes c.read_tokens.ensures.not_yet c.read_tokens.ensures.no_place
+pub returns-clause-fault : goal.returns-clause-fault
+returns-clause-fault c =
+    let us = map unit c.in_ok-units.units.items in
+    let spells : Reads (texts_of file) MOST_TREE_DEPTH (toks c.in_ok-lexed.lexed.tokens.items) us [] =
+    subst (λ (ts : List Token). Reads (texts_of file) MOST_TREE_DEPTH (toks ts) us []) c.deref.ensures.value c.in_ok-units.ensures.units in
+    all_explained c.args.text.now us (record { tokens = c.in_ok-lexed.lexed.tokens.items; lexes = c.in_ok-lexed.ensures.tokens; spells = spells }) c.design_of.result
+    (subst (λ (ss : List Timescale). IfErr c.design_of.result (Declines ss us)) (c.deref-2.ensures.value ∙ c.in_ok-lexed.ensures.scales)
+    (subst (λ (vs : List «Unit»). IfErr c.design_of.result (Declines c.deref-2.result.now (map unit vs))) c.deref-3.ensures.value c.design_of.ensures.none))
