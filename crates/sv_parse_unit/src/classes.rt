@@ -155,8 +155,7 @@ fn pure_method<'a>(alloc: Global, tokens: &'a [Token], budget: u32) -> Read<'a, 
     Ok((ClassItem::Pure(word.at, Box::into_inner(head)), rest))
 }
 
-/// Qualifiers, and `decl | routine`
-
+/// Qualifiers, and `decl | routine`, where a qualifier comes first
 fn qualified<'a>(alloc: Global, tokens: &'a [Token], budget: u32) -> Read<'a, ClassItem>
     requires low { budget ≤ 200 }
     requires some { mem (next (toks tokens.now)).code qualifier_first ≡ true }
