@@ -1,11 +1,12 @@
 // What whole calls put and answer, over files and logs in memory.
-ghost use Rattle.std.specs.Prelude.{◌≤◌, length};
+ghost use Rattle.std.specs.Prelude.{◌≤◌, Some, length};
 
 use crate::front::read_design;
 use crate::simulate::simulate;
 use std::alloc::{AllocError, Global};
+use std::marker::Model;
 use std::test::Fail;
-use sv_io::{GoodShelf, GoodSink, MemShelf, MemSink};
+use sv_io::{GoodShelf, GoodSink, MemShelf, MemSink, Sink, SinkError};
 use sv_lex::lex;
 use sv_tree::{Kind, Token};
 use sv_value::Place;
@@ -97,16 +98,15 @@ fn takes_a_list_of_choices(rt: HostRuntime) -> Result<(), Fail> {
     let alloc = rt.alloc();
     let text = "module t; initial $display(\"A\"); initial $display(\"B\"); endmodule";
     for (options, log) in [
-        ("", "A\nB\n"),
-        ("--active 1", "B\nA\n"),
-        ("--active 2", "A\nB\n"),
-        ("--active 4294967295,7", "B\nA\n"),
-        ("--active ", "A\nB\n"),
+        ("", "A\nB\nsvsim: done at 0\n"),
+        ("--active 1", "B\nA\nsvsim: done at 0\n"),
+        ("--active 2", "A\nB\nsvsim: done at 0\n"),
+        ("--active 4294967295,7", "B\nA\nsvsim: done at 0\n"),
+        ("--active ", "A\nB\nsvsim: done at 0\n"),
     ] {
         let (bytes, status) = run_with(alloc, text.as_bytes(), options)?;
         assert_eq!(rt; status, 0, "at {options}");
-        assert_eq!(rt; bytes.len(), 21, "at {options}");
-        assert_eq!(rt; &bytes[..4], log.as_bytes(), "at {options}");
+        assert_eq!(rt; bytes.as_slice(), log.as_bytes(), "at {options}");
     }
     Ok(())
 }
@@ -133,11 +133,48 @@ fn takes_a_number_of_steps(rt: HostRuntime) -> Result<(), Fail> {
             "svsim: stopped after 50 steps at 0\n",
             3,
         ),
+        (
+            "module t; initial forever ; endmodule",
+            "",
+            "svsim: stopped after 10000000 steps at 0\n",
+            3,
+        ),
+        (
+            "module t; endmodule",
+            "--steps 10000000",
+            "svsim: done at 0\n",
+            0,
+        ),
+        (
+            "module t; endmodule",
+            "--steps 10000001",
+            "svsim: bad command line\n",
+            2,
+        ),
     ] {
         let (bytes, status) = run_with(alloc, text.as_bytes(), options)?;
         assert_eq!(rt; status, expected, "at {text} {options}");
         assert_eq!(rt; bytes.as_slice(), log.as_bytes(), "at {text} {options}");
     }
+    Ok(())
+}
+
+#[test]
+fn tells_a_run_fault(rt: HostRuntime) -> Result<(), Fail> {
+    let alloc = rt.alloc();
+    let text = "`timescale 100s/1fs
+module t;
+  initial begin
+    $display(\"a\");
+    #92 $display(\"b\");
+    #1 $display(\"c\");
+  end
+endmodule
+";
+    let (bytes, status) = run(alloc, text.as_bytes())?;
+    assert_eq!(rt; status, 4);
+    let log = b"a\nb\nsvsim: a.sv:6:5: time too large at 9200000000000000000\n";
+    assert_eq!(rt; bytes.as_slice(), log.as_slice());
     Ok(())
 }
 
@@ -424,10 +461,18 @@ fn printing(alloc: Global, length: usize) -> Result<Vec<u8>, AllocError> {
 #[test]
 fn keeps_the_limit_of_texts(rt: HostRuntime) -> Result<(), Fail> {
     let alloc = rt.alloc();
-    for (length, expected) in [(1000, 0), (1001, 1)] {
-        let (_, status) = run(alloc, &printing(alloc, length)?)?;
-        assert_eq!(rt; status, expected, "at {length}");
+    let (bytes, status) = run(alloc, &printing(alloc, 1000)?)?;
+    assert_eq!(rt; status, 0);
+    let mut log = Vec::new(alloc);
+    for _ in 0..1000 {
+        log.push(b'x')?;
     }
+    log.extend_from_slice(b"\nsvsim: done at 0\n")?;
+    assert_eq!(rt; bytes.as_slice(), log.as_slice());
+    let (bytes, status) = run(alloc, &printing(alloc, 1001)?)?;
+    assert_eq!(rt; status, 1);
+    let log = b"svsim: a.sv:1:1: refused: not yet\n";
+    assert_eq!(rt; bytes.as_slice(), log.as_slice());
     Ok(())
 }
 
@@ -499,15 +544,17 @@ fn tells_words_without_meaning(rt: HostRuntime) -> Result<(), Fail> {
 }
 
 #[test]
-fn tells_a_failing_log(rt: HostRuntime) -> Result<(), Fail> {
+fn puts_nothing_behind_a_failed_put(rt: HostRuntime) -> Result<(), Fail> {
     let alloc = rt.alloc();
     let text = b"module t; initial begin $display(\"a\"); $display(\"b\"); end endmodule";
     for (call, keep, log) in [
         (1, 0, ""),
         (1, 1, "a"),
+        (1, 9, "a\n"),
         (2, 1, "a\nb"),
         (2, 9, "a\nb\n"),
         (3, 5, "a\nb\nsvsim"),
+        (3, 99, "a\nb\nsvsim: done at 0\n"),
     ] {
         let mut shelf = GoodShelf::new(alloc);
         shelf.add("a.sv", text)?;
@@ -520,6 +567,63 @@ fn tells_a_failing_log(rt: HostRuntime) -> Result<(), Fail> {
             "at {call}, {keep}"
         );
         assert_eq!(rt; out.bytes(), log.as_bytes(), "at {call}, {keep}");
+    }
+    Ok(())
+}
+
+/// A sink that finds no memory at one call, counted from 1.
+#[derive(Drop)]
+struct ShortSink {
+    got: GoodSink,
+    calls: u32,
+    short: u32,
+}
+
+impl Model for ShortSink {
+    ghost use Rattle.std.specs.Prelude.{List, ℕ};
+
+    ghost Value = { List ℕ };
+
+    ghost view = { λ s. s.got };
+}
+
+impl Sink for ShortSink {
+    ghost bytes = { λ s. Some s };
+
+    ghost faults = { λ _. 0 };
+
+    fn put(&mut self, piece: &[u8]) -> Result<(), SinkError> {
+        self.calls = self.calls.saturating_add(1);
+        if self.calls == self.short {
+            return Err(SinkError::Memory);
+        }
+        self.got.put(piece)
+    }
+}
+
+#[test]
+fn tells_a_log_without_memory(rt: HostRuntime) -> Result<(), Fail> {
+    let alloc = rt.alloc();
+    let text = b"module t; initial begin $display(\"a\"); $display(\"b\"); end endmodule";
+    for (short, log) in [
+        (1, "svsim: out of memory\n"),
+        (2, "a\nsvsim: out of memory\n"),
+        (3, "a\nb\n"),
+    ] {
+        let mut shelf = GoodShelf::new(alloc);
+        shelf.add("a.sv", text)?;
+        let mut out = ShortSink {
+            got: GoodSink::new(alloc),
+            calls: 0,
+            short,
+        };
+        let words = words_of(alloc, &["run", "a.sv"])?;
+        assert_eq!(rt;
+            simulate(alloc, &words, &mut shelf, &mut out),
+            8,
+            "at {short}"
+        );
+        assert_eq!(rt; out.got.bytes(), log.as_bytes(), "at {short}");
     }
     Ok(())
 }
@@ -547,14 +651,39 @@ fn tells_a_file_that_is_not_read(rt: HostRuntime) -> Result<(), Fail> {
 }
 
 #[test]
-fn tells_a_file_that_is_too_long(rt: HostRuntime) -> Result<(), Fail> {
+fn keeps_the_limit_of_bytes(rt: HostRuntime) -> Result<(), Fail> {
     let alloc = rt.alloc();
     let mut text = Vec::new(alloc);
-    for _ in 0..8_388_609 {
+    for _ in 0..8_388_608 {
         text.push(b' ')?;
     }
     let (bytes, status) = run(alloc, &text)?;
+    assert_eq!(rt; status, 1);
+    assert_eq!(rt;
+        bytes.as_slice(),
+        b"svsim: a.sv:1:1: refused: E4\n".as_slice()
+    );
+    text.push(b' ')?;
+    let (bytes, status) = run(alloc, &text)?;
     assert_eq!(rt; status, 5);
     assert_eq!(rt; bytes.as_slice(), b"svsim: a.sv: too long\n".as_slice());
+    Ok(())
+}
+
+#[test]
+fn keeps_the_limit_of_choices(rt: HostRuntime) -> Result<(), Fail> {
+    let alloc = rt.alloc();
+    let mut options = String::from_str(alloc, "--active 0")?;
+    for _ in 1..65_536 {
+        options.push_str(",0")?;
+    }
+    let text = b"module t; endmodule";
+    let (bytes, status) = run_with(alloc, text, options.as_str())?;
+    assert_eq!(rt; status, 0);
+    assert_eq!(rt; bytes.as_slice(), b"svsim: done at 0\n".as_slice());
+    options.push_str(",0")?;
+    let (bytes, status) = run_with(alloc, text, options.as_str())?;
+    assert_eq!(rt; status, 2);
+    assert_eq!(rt; bytes.as_slice(), b"svsim: bad command line\n".as_slice());
     Ok(())
 }
