@@ -1,6 +1,6 @@
 -- What is said on the text that was fetched is what is to be said to any words that ask for the file.
 use Rattle.std.proofs.Common.{rules, ◌≡◌, ◌≤◌, refl, Some, List, [], ℕ, sym, subst, ◌∙◌, ap, inl, inr, length}
-use Rattle.std.specs.Prelude.{IsSome, ◌++◌, codes, string_bytes}
+use Rattle.std.specs.Prelude.{IsSome, ◌++◌, codes}
 use Rattle.sv_io.specs.Outside.{file_at}
 use Rattle.sv_kernel.proofs.RunLemmas.{nothing_put}
 use Rattle.svsim.specs.Said.{within, on_file, too_long, runs, said_of_run, run_of, line}
