@@ -79,7 +79,7 @@ pub same_rests : (t : ProcessState → Bool) (qs : List ProcessState) → map (�
 same_rests t [] = refl
 same_rests t (q ∷ qs) = by_test (t q) ∙ ap (λ (us : List (List Stmt)). stmts q.rest ∷ us) (same_rests t qs)
   where
-    by_test : (b : Bool) → stmts (if b then record q { status = Ready } else q).rest ∷ map (λ q. stmts q.rest) (states_after t qs) ≡ stmts q.rest ∷ map (λ q. stmts q.rest) (states_after t qs)
+    by_test : (b : Bool) → stmts (if b then record q { latest = Ready } else q).rest ∷ map (λ q. stmts q.rest) (states_after t qs) ≡ stmts q.rest ∷ map (λ q. stmts q.rest) (states_after t qs)
     by_test true = refl
     by_test false = refl
 
@@ -94,8 +94,8 @@ module _ (d : Parts) (b : IsBuilt d) (m : Machine) (p : ProcessId) (side : Side)
   left_plain : IsPlainState d.objects left
   left_plain = record { program = h.plain.program; parent = h.plain.parent; rest = h.left }
 
-  left_quiet : is_watching u.status ≡ false
-  left_quiet = quiet_calm u.status h.quiet
+  left_quiet : is_watching u.latest ≡ false
+  left_quiet = quiet_calm u.latest h.quiet
 
   pub before_sound : IsSound d before
   before_sound =

@@ -34,7 +34,7 @@ module _ (d : Parts) (m : Machine) (p : ProcessId) (side : Side) (c : Config) (u
       → Tracks d n (watching p (record u { rest = rest }) (watches_in (stmt_at d at)) c)
   waits_tracks n at is waits =
       let s = h.stands in
-      let v : ProcessState = record u { rest = rest; status = Waiting (Watches (watches_in (stmt_at d at)) None) } in
+      let v : ProcessState = record u { rest = rest; latest = Waiting (Watches (watches_in (stmt_at d at)) None) } in
       let w : Option Awaited = Some (record { watches = watches_in (stmt_at d at); scope = None }) in
       record {
         time = ap (λ (y : Machine). y.time) is ∙ s.time;

@@ -66,7 +66,7 @@ module _ (d : Parts) (c : Config) (vs : List Vector) (e : store_of vs ≡ c.stor
 -- ---- the waits
 
 woken_is : (d : Parts) (c new : Config) (q : ProcessState) → is_woken d Changed c new q ≡ fires d c new (awaited_by q)
-woken_is d c new q = by_status q.status
+woken_is d c new q = by_status q.latest
   where
     by_status : (s : Status) → wakes d Changed c new s ≡ fires d c new (awaited s)
     by_status Ready = refl
@@ -99,7 +99,7 @@ module _ (d : Parts) (c new : Config) where
       let first : awaited_at d w ≡ awaited_by q = head e in
       ap (λ (b : Bool). awaited_at d (if b then None else w) ∷ map (awaited_at d) (waits_after g ws)) (same_test w q first)
       ∙ ap (λ (a : Option Awaited). a ∷ map (awaited_at d) (waits_after g ws)) (by_test (t q) first)
-      ∙ ap (λ (xs : List (Option Awaited)). awaited_by (if t q then record q { status = Ready } else q) ∷ xs) (waits_same ws qs (tail e))
+      ∙ ap (λ (xs : List (Option Awaited)). awaited_by (if t q then record q { latest = Ready } else q) ∷ xs) (waits_same ws qs (tail e))
     where
       head : {a b : Option Awaited} {xs ys : List (Option Awaited)} → a ∷ xs ≡ b ∷ ys → a ≡ b
       head h = cc
@@ -107,7 +107,7 @@ module _ (d : Parts) (c new : Config) where
       tail : {a b : Option Awaited} {xs ys : List (Option Awaited)} → a ∷ xs ≡ b ∷ ys → xs ≡ ys
       tail h = cc
 
-      by_test : (b : Bool) → awaited_at d w ≡ awaited_by q → awaited_at d (if b then None else w) ≡ awaited_by (if b then record q { status = Ready } else q)
+      by_test : (b : Bool) → awaited_at d w ≡ awaited_by q → awaited_at d (if b then None else w) ≡ awaited_by (if b then record q { latest = Ready } else q)
       by_test true h = refl
       by_test false h = h
   waits_same [] (q ∷ qs) e = absurd (cc)

@@ -31,7 +31,7 @@ awaited s = None
 
 -- what a process waits for
 abbrev pub awaited_by : ProcessState → Option Awaited
-awaited_by q = awaited q.status
+awaited_by q = awaited q.latest
 
 -- the event expressions of an event control
 abbrev pub watches_of : Form → List Watch
