@@ -78,7 +78,7 @@ module _ (d : Parts) (b : IsBuilt d) (p : ProcessId) (u : ProcessState) (s : Stm
   silent_records (form.At ws) h q = refl
   silent_records (form.Print print.Now ps es) h q = absurd q
   silent_records (form.Print print.Strobe ps es) h q = gone_records p u rest _
-  silent_records form.Finish h q = refl
+  silent_records form.Finish h q = gone_records p u rest _
   silent_records m h q = refl
 
 -- ---- one item

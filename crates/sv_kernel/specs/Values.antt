@@ -6,10 +6,10 @@ use Rattle.sv_value.specs.declared.operator.BinOp.{BinOp}
 use Rattle.sv_value.specs.declared.operator.UnOp.{UnOp}
 use Rattle.sv_value.specs.Operators.{unary_of, binary_of}
 use Rattle.sv_value.specs.Vector.{Vector}
-use Rattle.sv_flat.specs.Eval.{Operands as How, In_context, By_amount, Compared, By_truth, in_context}
+use Rattle.sv_flat.specs.Eval.{in_context}
 use Rattle.sv_flat.specs.State.{Elements, Store, View}
-use Rattle.sv_kernel.specs.declared.operands.Operands.{Operands}
-use Rattle.sv_kernel.specs.declared.operands.Operands.TheVariants as operands
+use Rattle.sv_flat.specs.declared.expr.Operands.{Operands}
+use Rattle.sv_flat.specs.declared.expr.Operands.TheVariants as operands
 use Rattle.sv_kernel.specs.declared.values.Change.{Change}
 use Rattle.sv_kernel.specs.declared.operands.Context.{Context}
 
@@ -25,13 +25,6 @@ value_with (Some h) o x = if h.object.0 == o.0 then h.value else x
 -- a view of these values
 pub record Sees (v : View) (vs : List Vector) (h : Option Change) : Type 0 where
   pub object : (o : ObjId) (x : Vector) → slice_get vs o.0 ≡ Some x → v.object o 0 ≡ val.Bits (value_with h o x)
-
--- how an operator takes its operands
-abbrev pub how : Operands → How
-how operands.InContext = In_context
-how operands.ByAmount = By_amount
-how operands.Compared = Compared
-how operands.ByTruth = By_truth
 
 -- a vector in a context
 abbrev pub within : Context → Vector → Vector
@@ -54,22 +47,22 @@ abbrev pub wider : Context → Context → Context
 wider a b = record { width = max a.width b.width; signed = a.signed && b.signed }
 
 -- the context of the left operand, from that of the whole and those of both by themselves
-abbrev pub left_context : How → (whole a b : Context) → Context
-left_context In_context whole a b = whole
-left_context By_amount whole a b = whole
-left_context Compared whole a b = wider a b
-left_context By_truth whole a b = a
+abbrev pub left_context : Operands → (whole a b : Context) → Context
+left_context operands.InContext whole a b = whole
+left_context operands.ByAmount whole a b = whole
+left_context operands.Compared whole a b = wider a b
+left_context operands.ByTruth whole a b = a
 
 -- and of the right one
-abbrev pub right_context : How → (whole a b : Context) → Context
-right_context In_context whole a b = whole
-right_context By_amount whole a b = b
-right_context Compared whole a b = wider a b
-right_context By_truth whole a b = b
+abbrev pub right_context : Operands → (whole a b : Context) → Context
+right_context operands.InContext whole a b = whole
+right_context operands.ByAmount whole a b = b
+right_context operands.Compared whole a b = wider a b
+right_context operands.ByTruth whole a b = b
 
 -- what it gives
-abbrev pub binary_within : How → BinOp → Context → Vector → Vector → Vector
-binary_within In_context op whole x y = binary_of op x y
-binary_within By_amount op whole x y = binary_of op x y
-binary_within Compared op whole x y = within whole (binary_of op x y)
-binary_within By_truth op whole x y = within whole (binary_of op x y)
+abbrev pub binary_within : Operands → BinOp → Context → Vector → Vector → Vector
+binary_within operands.InContext op whole x y = binary_of op x y
+binary_within operands.ByAmount op whole x y = binary_of op x y
+binary_within operands.Compared op whole x y = within whole (binary_of op x y)
+binary_within operands.ByTruth op whole x y = within whole (binary_of op x y)

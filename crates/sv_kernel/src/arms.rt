@@ -1,5 +1,5 @@
 // What is left for later: waits, updates and prints that are kept.
-ghost use Rattle.std.specs.Prelude.{◌≡◌, ◌<◌, ◌≤◌, ℕ, OnOk, IfOk, length};
+ghost use Rattle.std.specs.Prelude.{◌≡◌, ◌<◌, ◌≤◌, ℕ, OnOk, IfOk, length, true};
 ghost use Rattle.std.specs.List.{AllByRecursion};
 ghost use Rattle.sv_flat.specs.Built.{IsBuilt, IsBuiltExpr, IsBuiltPrint, IsBuiltTarget};
 ghost use Rattle.sv_flat.specs.Short.{gone_on, printed_now, strobe_kept, text_now, watching};
@@ -87,4 +87,17 @@ pub fn keep_strobe(
     machine.strobes.push(Kept { side, at })?;
     go_on(machine, design, process);
     Ok(())
+}
+
+/// Nothing runs after the slot (IEEE 1800-2017, 20.2); the process goes on as after every statement.
+pub fn finish(machine: &mut Machine, design: &Design, process: ProcessId)
+    requires process { process.0 < length machine.old.processes.items }
+    requires built { IsBuilt design.now }
+    ensures ok { (side : Side) → Does design.now machine.old machine.new process side
+        (λ c u rest. gone_on process u rest (record c { finishing = true })) }
+    ensures time { machine.new.time ≡ machine.old.time }
+    ensures executed { machine.new.executed ≡ machine.old.executed }
+{
+    machine.finishing = true;
+    go_on(machine, design, process);
 }

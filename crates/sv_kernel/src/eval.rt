@@ -3,16 +3,16 @@ ghost use Rattle.std.specs.Prelude.{◌≡◌, ◌≢◌, ◌<◌, ◌≤◌, Ok
 ghost use Rattle.sv_value.specs.declared.val.Val.TheVariants as val;
 ghost use Rattle.sv_value.specs.Operators.{binary_of, TakesWidths};
 ghost use Rattle.sv_flat.specs.Built.{IsBuilt, IsBuiltExpr, IsWidth};
-ghost use Rattle.sv_flat.specs.Eval.{By_truth, eval as value_in, width_of, operands_of, is_in_context, value_of};
+ghost use Rattle.sv_flat.specs.Eval.{eval as value_in, width_of, operands_of, is_in_context, value_of};
 ghost use Rattle.sv_flat.specs.State.{View};
-ghost use Rattle.sv_kernel.specs.Values.{Sees, how, unary_within, binary_within};
+ghost use Rattle.sv_kernel.specs.Values.{Sees, unary_within, binary_within};
 
 use crate::operands::{
-    Context, Operands, is_in_context, left_context, operand_context, operands_of, right_context,
+    Context, is_in_context, left_context, operand_context, operands_of, right_context,
 };
 use crate::values::{Change, as_integral, own_context, value_of_object, within};
 use sv_arith::{binary, unary};
-use sv_flat::{Design, Expr, ExprForm};
+use sv_flat::{Design, Expr, ExprForm, Operands};
 use sv_value::{BinOp, Bits, UnOp};
 
 /// The value of an expression that stands alone, where an object may have another value instead.
@@ -86,8 +86,8 @@ fn unary_value(op: UnOp, context: Context, x: Bits) -> Bits
 /// What an operator gives for its operands, each in its context.
 fn binary_value(op: BinOp, operands: Operands, context: Context, x: Bits, y: Bits) -> Bits
     requires width { IsWidth context.width }
-    requires how { how operands ≡ operands_of op }
-    requires takes { operands_of op ≢ By_truth → TakesWidths op x y }
+    requires operands { operands ≡ operands_of op }
+    requires takes { operands_of op ≢ Operands.ByTruth → TakesWidths op x y }
     ensures { result ≡ binary_within (operands_of op) op context x y }
 {
     match operands {
@@ -100,7 +100,7 @@ fn binary_value(op: BinOp, operands: Operands, context: Context, x: Bits, y: Bit
 
 /// `&&` and `||` look at the truth of their operands alone.
 fn by_truth(op: BinOp, x: Bits, y: Bits) -> Bits
-    requires { operands_of op ≡ By_truth }
+    requires { operands_of op ≡ Operands.ByTruth }
     ensures { result ≡ binary_of op x y }
 {
     let x = unary(UnOp::ReduceOr, x);

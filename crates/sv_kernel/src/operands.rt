@@ -1,8 +1,9 @@
 // How operators take their operands.
 ghost use Rattle.std.specs.Prelude.{◌≡◌, max};
 ghost use Rattle.sv_flat.specs.Eval.{operands_of, is_in_context};
-ghost use Rattle.sv_kernel.specs.Values.{how, operand_context, wider, left_context, right_context};
+ghost use Rattle.sv_kernel.specs.Values.{operand_context, wider, left_context, right_context};
 
+use sv_flat::Operands;
 use sv_value::{BinOp, UnOp};
 
 /// The context in which an expression is evaluated (IEEE 1800-2017, 11.6).
@@ -14,22 +15,9 @@ pub struct Context {
     pub signed: bool,
 }
 
-/// How an operator with two operands takes them (IEEE 1800-2017, Table 11-21).
-#[derive(Clone, Copy)]
-pub enum Operands {
-    /// Both in the context of the whole.
-    InContext,
-    /// The left one in the context of the whole, the right one by itself.
-    ByAmount,
-    /// Both in the context of the wider one.
-    Compared,
-    /// Each by itself.
-    ByTruth,
-}
-
 /// How an operator takes its operands.
 pub fn operands_of(op: BinOp) -> Operands
-    ensures { how result ≡ operands_of op }
+    ensures { result ≡ operands_of op }
 {
     match op {
         BinOp::Add => Operands::InContext,
@@ -89,7 +77,7 @@ pub fn greater(a: u32, b: u32) -> u32
 
 /// The context of the left operand, from that of the whole and those of both by themselves.
 pub fn left_context(operands: Operands, whole: Context, a: Context, b: Context) -> Context
-    ensures { result ≡ left_context (how operands) whole a b }
+    ensures { result ≡ left_context operands whole a b }
 {
     match operands {
         Operands::InContext => whole,
@@ -101,7 +89,7 @@ pub fn left_context(operands: Operands, whole: Context, a: Context, b: Context) 
 
 /// The context of the right operand.
 pub fn right_context(operands: Operands, whole: Context, a: Context, b: Context) -> Context
-    ensures { result ≡ right_context (how operands) whole a b }
+    ensures { result ≡ right_context operands whole a b }
 {
     match operands {
         Operands::InContext => whole,

@@ -17,7 +17,7 @@ ghost use Rattle.sv_kernel.specs.Statements.{Adds, Does};
 ghost use Rattle.sv_kernel.specs.Values.{store_of};
 ghost use Rattle.sv_kernel.specs.Waits.{stmt_at, waits_weight};
 
-use crate::arms::{keep_strobe, print_now, wait_at};
+use crate::arms::{finish, keep_strobe, print_now, wait_at};
 use crate::delays::{sleep, ticks_of_delay, ticks_of_optional_delay};
 use crate::eval::value;
 use crate::frames::Frame;
@@ -124,7 +124,7 @@ fn execute(
             PrintKind::Strobe => keep_strobe(machine, design, process, side, at)?,
             PrintKind::Monitor => unreachable!(),
         },
-        Form::Finish => machine.finishing = true,
+        Form::Finish => finish(machine, design, process),
         _ => unreachable!(),
     }
     Ok(Vec::new(machine.alloc))

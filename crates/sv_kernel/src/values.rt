@@ -4,10 +4,10 @@ ghost use Rattle.sv_value.specs.declared.val.Val.TheVariants as val;
 ghost use Rattle.sv_flat.specs.Built.{IsBuilt, IsBuiltExpr, IsWidth};
 ghost use Rattle.sv_flat.specs.Eval.{width_of, is_signed, as_integral, binary_width, binary_sign};
 ghost use Rattle.sv_flat.specs.State.{View};
-ghost use Rattle.sv_kernel.specs.Values.{Sees, how, within};
+ghost use Rattle.sv_kernel.specs.Values.{Sees, within};
 
-use crate::operands::{Context, Operands, greater, is_in_context, operands_of};
-use sv_flat::{DataType, Design, Expr, ExprForm};
+use crate::operands::{Context, greater, is_in_context, operands_of};
+use sv_flat::{DataType, Design, Expr, ExprForm, Operands};
 use sv_value::{Bits, Integral, ObjId, Plain};
 
 /// Another value of an object.
@@ -49,7 +49,7 @@ pub fn width_of(design: &Design, expr: &Expr) -> u32
 }
 
 fn width_of_operation(operands: Operands, left: u32, right: u32) -> u32
-    ensures { result ≡ binary_width (how operands) left right }
+    ensures { result ≡ binary_width operands left right }
 {
     match operands {
         Operands::InContext => greater(left, right),
@@ -83,7 +83,7 @@ pub fn is_signed(design: &Design, expr: &Expr) -> bool
 }
 
 fn sign_of_operation(operands: Operands, left: bool, right: bool) -> bool
-    ensures { result ≡ binary_sign (how operands) left right }
+    ensures { result ≡ binary_sign operands left right }
 {
     match operands {
         Operands::InContext => left && right,

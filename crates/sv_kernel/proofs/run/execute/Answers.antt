@@ -24,7 +24,7 @@ use Rattle.sv_kernel.specs.Waits.{watches_in, watches_of, stmt_at, awaited_by}
 use Rattle.sv_kernel.specs.Values.{store_of}
 use Rattle.sv_kernel.proofs.RecordLemmas.{IsSilent, one_item, branch_is, silent_records, strobe_is}
 use Rattle.std.specs.Prelude.{if◌then◌else◌}
-use Rattle.sv_kernel.proofs.StateLemmas.{awaits_still, slept_tracks, finish_tracks, block_short, delay_short}
+use Rattle.sv_kernel.proofs.StateLemmas.{awaits_still, slept_tracks, block_short, delay_short}
 use Rattle.sv_kernel.proofs.run.execute.Goals as goal
 use Rattle.sv_kernel.proofs.run.execute.Goals.{in-Null+in_ok-enter-in-Null, in-Block+in_ok-enter-in-Block, in-Assign+in-len1+in_ok-assign-in-len1, in-Nonblocking+in-len1-as_slice+in_ok-update_later-in-len1-as_slice, in-If+in_ok-enter-in-If, then-holds, else-holds, in-At, in-Delay+in_ok-sleep-in-Delay, in-Print+in-Strobe+in_ok-keep_strobe-in-Strobe, in-Finish}
 
@@ -91,8 +91,7 @@ returns-clause-ok c = λ c' u rest h.
           let is : strobe_at d (record { side = c.args.side; at = c.args.at }) ≡ x = strobe_is c.args.side u.side s (stmt_at d c.args.at) ps es c.requires.at kind h.on in
           arm d p u s rest c' n k f (form.Print print.Strobe ps es) kind w.machine-is
           (subst (λ (z : Strobe). Tracks d k (gone_on p u rest (strobe_kept z c'))) is (w.in_ok-keep_strobe-in-Strobe.ensures.ok c' u rest h))
-      | in-Finish w ↦
-          arm d p u s rest c' n (record m { finishing = true }) f _ w.in-Finish.is w.machine-is (finish_tracks d p u rest s.at c' m (record m { finishing = true }) h.fault h.going h.stands still h.quiet refl)
+      | in-Finish w ↦ arm d p u s rest c' n w.finish.new.machine f _ w.in-Finish.is w.machine-is (w.finish.ensures.ok c.args.side c' u rest h)
     ]
 
 pub returns-clause-lines : goal.returns-clause-lines
