@@ -18,12 +18,11 @@ use sv_value::{FaultKind, NoMemory, Piece, Place, ProcessId, RunFault, Side};
 
 /// The running process waits at an event control.
 pub fn wait_at(machine: &mut Machine, design: &Design, process: ProcessId, at: Frame)
-    requires waits { process.0 < length machine.old.waits.items }
+    requires may { MayRun design.now machine.old process }
     requires built { IsBuilt design.now }
     ensures ok { (side : Side) → Does design.now machine.old machine.new process side
         (λ c u rest. watching process (record u { rest = rest }) (watches_in (stmt_at design.now at)) c) }
-    ensures time { machine.new.time ≡ machine.old.time }
-    ensures executed { machine.new.executed ≡ machine.old.executed }
+    ensures frame { SameMoment machine.old machine.new }
 {
     let _ = design;
     machine.waits[process.0 as usize] = Some(at);
@@ -40,16 +39,14 @@ pub fn print_now(
     pieces: &[Piece],
     exprs: &[Expr],
 ) -> Result<Vec<Line>, NoMemory>
-    requires process { process.0 < length machine.old.processes.items }
+    requires may { MayRun design.now machine.old process }
     requires built { IsBuilt design.now }
     requires print { IsBuiltPrint design.now.objects pieces.now exprs.now }
-    requires each { length machine.old.values.items ≡ length design.now.objects }
     ensures ok { OnOk result (Does design.now machine.old machine.new process side
         (λ c u rest. printed_now at process u (text_now design.now pieces.now exprs.now c) rest c)) }
     ensures lines { IfOk result (λ lines. Adds design.now machine.old process side
         (λ c u rest. printed_now at process u (text_now design.now pieces.now exprs.now c) rest c) lines.items) }
-    ensures time { machine.new.time ≡ machine.old.time }
-    ensures executed { machine.new.executed ≡ machine.old.executed }
+    ensures frame { SameMoment machine.old machine.new }
 {
     let mut lines = Vec::new(machine.alloc);
     match text_of(machine.alloc, design, pieces, exprs, &machine.values)? {
@@ -76,13 +73,12 @@ pub fn keep_strobe(
     side: Side,
     at: Frame,
 ) -> Result<(), NoMemory>
-    requires process { process.0 < length machine.old.processes.items }
+    requires may { MayRun design.now machine.old process }
     requires built { IsBuilt design.now }
     requires print { IsPlainStrobe design.now.objects (strobe_at design.now (record { side = side; at = at })) }
     ensures ok { OnOk result (Does design.now machine.old machine.new process side
         (λ c u rest. gone_on process u rest (strobe_kept (strobe_at design.now (record { side = side; at = at })) c))) }
-    ensures time { machine.new.time ≡ machine.old.time }
-    ensures executed { machine.new.executed ≡ machine.old.executed }
+    ensures frame { SameMoment machine.old machine.new }
 {
     machine.strobes.push(Kept { side, at })?;
     go_on(machine, design, process);
@@ -91,12 +87,11 @@ pub fn keep_strobe(
 
 /// Nothing runs after the slot (IEEE 1800-2017, 20.2); the process goes on as after every statement.
 pub fn finish(machine: &mut Machine, design: &Design, process: ProcessId)
-    requires process { process.0 < length machine.old.processes.items }
+    requires may { MayRun design.now machine.old process }
     requires built { IsBuilt design.now }
     ensures ok { (side : Side) → Does design.now machine.old machine.new process side
         (λ c u rest. gone_on process u rest (record c { finishing = true })) }
-    ensures time { machine.new.time ≡ machine.old.time }
-    ensures executed { machine.new.executed ≡ machine.old.executed }
+    ensures frame { SameMoment machine.old machine.new }
 {
     machine.finishing = true;
     go_on(machine, design, process);

@@ -74,8 +74,7 @@ pub fn sleep(
     requires absent { ¬ Contains (standing machine.old.regions) process }
     requires few { length (standing machine.old.regions) < 2 ^ 31 }
     ensures ok { OnOk result ((n : ℕ) → IsTicks ticks n → Slept machine.old machine.new process side at n) }
-    ensures time { machine.new.time ≡ machine.old.time }
-    ensures executed { machine.new.executed ≡ machine.old.executed }
+    ensures frame { SameMoment machine.old machine.new }
 {
     match ticks {
         Some(0) => {
@@ -108,8 +107,7 @@ fn sleep_until(
       wheel = record machine.old.wheel { events = machine.old.wheel.events ++ record { time = t; region = front_of side; due = Due.Resume process } ∷ [] };
     })) }
     ensures faults { OnOk result (IfNone moment (machine.new ≡ record machine.old { fault = Some (record { kind = FaultKind.Time; at = at; time = machine.old.time }) })) }
-    ensures time { machine.new.time ≡ machine.old.time }
-    ensures executed { machine.new.executed ≡ machine.old.executed }
+    ensures frame { SameMoment machine.old machine.new }
 {
     match moment {
         Some(moment) => {

@@ -20,12 +20,12 @@ pub fn do_job(machine: &mut Machine, design: &Design, job: &Job) -> Result<(), N
     requires job { IsPlainJob design.now.objects job.now }
     requires each { length machine.old.values.items ≡ length design.now.objects }
     requires count { length machine.old.waits.items ≡ length design.now.processes }
-    requires weights { (w : ProcessId → ℕ) → sum_by w (standing machine.old.regions) + waits_weight w 0 machine.old.waits.items ≤ weight_of_all w design.now }
+    requires weights { EachInOnePlace design.now machine.old.regions machine.old.waits.items }
     ensures ok { OnOk result ((c : Config) (rests : List (List Stmt)) → IsSound design.now c → Stands design.now machine.old c rests
         → Stands design.now machine.new (job_done design.now job.now c) rests) }
-    ensures same { OnOk result (machine.new ≡ record machine.old { values = machine.new.values; waits = machine.new.waits; regions = machine.new.regions }) }
-    ensures time { machine.new.time ≡ machine.old.time }
-    ensures executed { machine.new.executed ≡ machine.old.executed }
+    ensures same { OnOk result (machine.new
+        ≡ record machine.old { values = machine.new.values; waits = machine.new.waits; regions = machine.new.regions }) }
+    ensures frame { SameMoment machine.old machine.new }
 {
     match job {
         Job::Update(updates) => match updates.as_slice() {

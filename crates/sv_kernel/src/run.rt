@@ -12,7 +12,7 @@ ghost use Rattle.sv_value.specs.Operators.{is_true};
 ghost use Rattle.sv_flat.specs.Sound.{IsSound, weight_of_all};
 ghost use Rattle.sv_flat.specs.Short.{short, value_now};
 ghost use Rattle.sv_kernel.specs.Frames.{stmts_left};
-ghost use Rattle.sv_kernel.specs.Machine.{Stands, Tracks, records_of};
+ghost use Rattle.sv_kernel.specs.Machine.{Makes, AddsRecords, MayRun, SameMoment};
 ghost use Rattle.sv_kernel.specs.Statements.{Adds, Does};
 ghost use Rattle.sv_kernel.specs.Values.{store_of};
 ghost use Rattle.sv_kernel.specs.Waits.{stmt_at, waits_weight};
@@ -35,7 +35,8 @@ fn holds(design: &Design, condition: &Expr, values: &[Bits]) -> bool
     requires built { IsBuilt design.now }
     requires expr { IsBuiltExpr design.now.objects condition.now }
     requires each { length values.now ≡ length design.now.objects }
-    ensures { (c : Config) → store_of values.now ≡ c.store → result ≡ is_true (vector_in (value_now design.now condition.now c)) }
+    ensures { (c : Config) → store_of values.now ≡ c.store
+        → result ≡ is_true (vector_in (value_now design.now condition.now c)) }
 {
     match any_one(value(design, condition, values, &None)) {
         Sym::One => true,
@@ -54,22 +55,16 @@ fn execute(
     at: Frame,
     stmt: &Stmt,
 ) -> Result<Vec<Line>, NoMemory>
-    requires process { process.0 < length machine.old.processes.items }
-    requires waiting { process.0 < length machine.old.waits.items }
-    requires in_time { machine.old.wheel.last ≤ machine.old.time }
-    requires absent { ¬ Contains (standing machine.old.regions) process }
-    requires few { length (standing machine.old.regions) < 2 ^ 31 }
-    requires each { length machine.old.values.items ≡ length design.now.objects }
-    requires count { length machine.old.waits.items ≡ length design.now.processes }
-    requires weights { (w : ProcessId → ℕ) → sum_by w (standing machine.old.regions) + waits_weight w 0 machine.old.waits.items ≤ weight_of_all w design.now }
+    requires may { MayRun design.now machine.old process }
     requires built { IsBuilt design.now }
     requires at { stmt_at design.now at ≡ Some stmt.now }
     requires form { IsBuiltForm design.now.objects stmt.now.form }
     requires once { (body : RoutineId) → stmt.now.form ≢ form.Forever body }
-    ensures ok { OnOk result (Does design.now machine.old machine.new process side (λ c u rest. short design.now process u stmt.now stmt.now.form rest c)) }
-    ensures lines { IfOk result (λ lines. Adds design.now machine.old process side (λ c u rest. short design.now process u stmt.now stmt.now.form rest c) lines.items) }
-    ensures time { machine.new.time ≡ machine.old.time }
-    ensures executed { machine.new.executed ≡ machine.old.executed }
+    ensures ok { OnOk result (Does design.now machine.old machine.new process side
+        (λ c u rest. short design.now process u stmt.now stmt.now.form rest c)) }
+    ensures lines { IfOk result (λ lines. Adds design.now machine.old process side
+        (λ c u rest. short design.now process u stmt.now stmt.now.form rest c) lines.items) }
+    ensures frame { SameMoment machine.old machine.new }
 {
     match &stmt.form {
         Form::Null => enter(machine, design, process, None)?,
@@ -136,21 +131,12 @@ pub fn run_statement(
     design: &Design,
     process: ProcessId,
 ) -> Result<Vec<Line>, NoMemory>
-    requires process { process.0 < length machine.old.processes.items }
-    requires known { process.0 < length design.now.processes }
-    requires in_time { machine.old.wheel.last ≤ machine.old.time }
-    requires absent { ¬ Contains (standing machine.old.regions) process }
-    requires few { length (standing machine.old.regions) < 2 ^ 31 }
-    requires each { length machine.old.values.items ≡ length design.now.objects }
-    requires count { length machine.old.waits.items ≡ length design.now.processes }
-    requires weights { (w : ProcessId → ℕ) → sum_by w (standing machine.old.regions) + waits_weight w 0 machine.old.waits.items ≤ weight_of_all w design.now }
+    requires may { MayRun design.now machine.old process }
+    requires running { machine.old.running ≡ Some process }
     requires built { IsBuilt design.now }
-    ensures ok { OnOk result ((c : Config) → IsSound design.now c → c.running ≡ Some process → machine.old.fault ≡ c.fault → IsNone c.fault → Stands design.now machine.old c (stmts_left c)
-        → Tracks design.now machine.new (statement_ran design.now (Some process) c)) }
-    ensures lines { IfOk result (λ lines. (c : Config) → IsSound design.now c → c.running ≡ Some process → machine.old.fault ≡ c.fault → IsNone c.fault → Stands design.now machine.old c (stmts_left c)
-        → (statement_ran design.now (Some process) c).records ≡ c.records ++ records_of lines.items) }
-    ensures time { machine.new.time ≡ machine.old.time }
-    ensures executed { machine.new.executed ≡ machine.old.executed }
+    ensures ok { OnOk result (Makes design.now machine.old machine.new (statement_ran design.now (Some process))) }
+    ensures lines { IfOk result (λ lines. AddsRecords design.now machine.old (statement_ran design.now (Some process)) lines.items) }
+    ensures frame { SameMoment machine.old machine.new }
 {
     let Some(top) = first_at(&mut machine.processes, design, process) else {
         machine.running = None;

@@ -54,16 +54,13 @@ pub fn update_later(
     expr: &Expr,
     ticks: Option<u64>,
 ) -> Result<(), NoMemory>
-    requires process { process.0 < length machine.old.processes.items }
+    requires may { MayRun design.now machine.old process }
     requires built { IsBuilt design.now }
     requires target { IsBuiltTarget design.now.objects target.now }
     requires expr { IsBuiltExpr design.now.objects expr.now }
-    requires each { length machine.old.values.items ≡ length design.now.objects }
-    requires in_time { machine.old.wheel.last ≤ machine.old.time }
     ensures ok { OnOk result ((n : ℕ) → IsTicks ticks n → Does design.now machine.old machine.new process side
         (λ c u rest. updated_later at process u n (update_job (object_of target.now.base) (target_value design.now target.now expr.now c)) rest c)) }
-    ensures time { machine.new.time ≡ machine.old.time }
-    ensures executed { machine.new.executed ≡ machine.old.executed }
+    ensures frame { SameMoment machine.old machine.new }
 {
     let bits = value_for(design, target, expr, &machine.values);
     let moment = match ticks {

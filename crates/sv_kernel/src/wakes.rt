@@ -154,7 +154,7 @@ pub fn wake_all(
     requires built { IsBuilt design.now }
     requires each { length values.now ≡ length design.now.objects }
     requires count { length waits.old.items ≡ length design.now.processes }
-    requires weights { (w : ProcessId → ℕ) → sum_by w (standing regions.old) + waits_weight w 0 waits.old.items ≤ weight_of_all w design.now }
+    requires weights { EachInOnePlace design.now regions.old waits.old.items }
     ensures waits { OnOk result ((old new : View) → Sees old values.now None → Sees new values.now change.now
         → waits.new.items ≡ waits_after (woken_at design.now old new) waits.old.items) }
     ensures regions { OnOk result ((old new : View) → Sees old values.now None → Sees new values.now change.now

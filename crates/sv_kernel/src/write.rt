@@ -28,12 +28,12 @@ pub fn write(
     requires known { object.0 < length machine.old.values.items }
     requires each { length machine.old.values.items ≡ length design.now.objects }
     requires count { length machine.old.waits.items ≡ length design.now.processes }
-    requires weights { (w : ProcessId → ℕ) → sum_by w (standing machine.old.regions) + waits_weight w 0 machine.old.waits.items ≤ weight_of_all w design.now }
+    requires weights { EachInOnePlace design.now machine.old.regions machine.old.waits.items }
     ensures ok { OnOk result ((at : Place) (c : Config) (rests : List (List Stmt)) → IsSound design.now c → Stands design.now machine.old c rests
         → Stands design.now machine.new (write_occurred design.now at (Cell object 0 None) (val.Bits value) c) rests) }
-    ensures same { OnOk result (machine.new ≡ record machine.old { values = machine.new.values; waits = machine.new.waits; regions = machine.new.regions }) }
-    ensures time { machine.new.time ≡ machine.old.time }
-    ensures executed { machine.new.executed ≡ machine.old.executed }
+    ensures same { OnOk result (machine.new
+        ≡ record machine.old { values = machine.new.values; waits = machine.new.waits; regions = machine.new.regions }) }
+    ensures frame { SameMoment machine.old machine.new }
 {
     let change = Some(Change { object, value });
     wake_all(

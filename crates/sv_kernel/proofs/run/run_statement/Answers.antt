@@ -22,16 +22,16 @@ same_tail : {s t : Stmt} {xs ys : List Stmt} → s ∷ xs ≡ t ∷ ys → xs �
 same_tail h = cc
 
 pub returns-in_default-clause-ok : goal.returns-in_default-clause-ok
-returns-in_default-clause-ok c = λ c' k r g f s.
+returns-in_default-clause-ok c = λ c' h'. let k = h'.sound in let g = h'.fault in let f = h'.going in let s = h'.stands in let r = sym s.running ∙ c.requires.running in
     ended_tracks c.args.design.now c.requires.built c' k f c.args.process r c.args.machine.now _ g s c.in_default.ensures.none refl c.in_default.ensures.same
 
 pub returns-in_default-clause-lines : goal.returns-in_default-clause-lines
-returns-in_default-clause-lines c = λ c' k r g f s.
+returns-in_default-clause-lines c = λ c' h'. let k = h'.sound in let g = h'.fault in let f = h'.going in let s = h'.stands in let r = sym s.running ∙ c.requires.running in
     ended_records c.args.design.now c.requires.built c' k f c.args.process r (ap (λ (u : List (List Stmt)). list_at u c.args.process.0) (sym s.remaining) ∙ c.in_default.ensures.none)
     ∙ ap (λ (ls : List Line). c'.records ++ records_of ls) (sym c.new.ensures.items)
 
 pub returns-in-Forever-clause-ok : goal.returns-in-Forever-clause-ok
-returns-in-Forever-clause-ok c = λ c' k r g f st.
+returns-in-Forever-clause-ok c = λ c' h'. let k = h'.sound in let g = h'.fault in let f = h'.going in let st = h'.stands in let r = sym st.running ∙ c.requires.running in
     let d = c.args.design.now in
     let b = c.requires.built in
     let p = c.args.process in
@@ -50,7 +50,7 @@ returns-in-Forever-clause-ok c = λ c' k r g f st.
     (c.in_ok-enter.ensures.ok u.side c' u (Turn s None ∷ left) runs)
 
 pub returns-in-Forever-clause-lines : goal.returns-in-Forever-clause-lines
-returns-in-Forever-clause-lines c = λ c' k r g f st.
+returns-in-Forever-clause-lines c = λ c' h'. let k = h'.sound in let g = h'.fault in let f = h'.going in let st = h'.stands in let r = sym st.running ∙ c.requires.running in
     let d = c.args.design.now in
     let b = c.requires.built in
     let p = c.args.process in
@@ -132,7 +132,7 @@ returns-clause-ok c =
     let g' = get_or gs c.args.process.0 c.index-processes-process.result in
     let within : p.0 < length gs = search rules in
     let own : slice_get d.processes p.0 ≡ Some g' = ap (λ (xs : List Process). slice_get xs p.0) (sym c.processes.ensures.processes) ∙ slice_get-get_or gs p.0 c.index-processes-process.result within in
-    on_ok_weaker c.execute.result (λ h. λ c' k r g f st.
+    on_ok_weaker c.execute.result (λ h. λ c' h'. let k = h'.sound in let g = h'.fault in let f = h'.going in let st = h'.stands in let r = sym st.running ∙ c.requires.running in
     let e : list_at (stmts_left c') p.0 ≡ s ∷ first.0 = ap (λ (u : List (List Stmt)). list_at u p.0) (sym st.remaining) ∙ first.1 in
     let u = state_of d b c' k f p r in
     let left_over = (next_is d b c' k f p r s first.0 e).left in
@@ -162,7 +162,7 @@ returns-clause-lines c =
     let g' = get_or gs c.args.process.0 c.index-processes-process.result in
     let within : p.0 < length gs = search rules in
     let own : slice_get d.processes p.0 ≡ Some g' = ap (λ (xs : List Process). slice_get xs p.0) (sym c.processes.ensures.processes) ∙ slice_get-get_or gs p.0 c.index-processes-process.result within in
-    IfOk-weaker c.execute.result _ _ (λ lines h. λ c' k r g f st.
+    IfOk-weaker c.execute.result _ _ (λ lines h. λ c' h'. let k = h'.sound in let g = h'.fault in let f = h'.going in let st = h'.stands in let r = sym st.running ∙ c.requires.running in
     let e : list_at (stmts_left c') p.0 ≡ s ∷ first.0 = ap (λ (u : List (List Stmt)). list_at u p.0) (sym st.remaining) ∙ first.1 in
     let u = state_of d b c' k f p r in
     let left_over = (next_is d b c' k f p r s first.0 e).left in
