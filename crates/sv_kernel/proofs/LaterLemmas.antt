@@ -21,11 +21,12 @@ use Rattle.sv_flat.proofs.StatementSound.{scheduled_sound, strobe_sound}
 use Rattle.sv_kernel.specs.declared.frames.Frame.{Frame}
 use Rattle.sv_kernel.specs.declared.machine.Machine.{Machine}
 use Rattle.sv_kernel.specs.declared.machine.Kept.{Kept}
-use Rattle.sv_kernel.specs.Frames.{lefts, stmts, stmts_left}
-use Rattle.sv_kernel.specs.Values.{store_of}
-use Rattle.sv_kernel.specs.Machine.{Tracks, strobe_at}
+use Rattle.sv_kernel.specs.Frames.{all_left, stmts, stmts_left, stmt_at}
+use Rattle.sv_kernel.specs.Expressions.{store_of}
+use Rattle.sv_kernel.specs.Machine.{Tracks}
+use Rattle.sv_kernel.specs.Prints.{strobe_at}
 use Rattle.sv_kernel.specs.Statements.{Runs}
-use Rattle.sv_kernel.specs.Waits.{Awaited, awaited_at, awaited_by, stmt_at, watches_in}
+use Rattle.sv_kernel.specs.Waits.{Awaited, awaited_at, awaited_by, watches_in}
 use Rattle.sv_kernel.proofs.StateLemmas.{left-state, any_records}
 use Rattle.sv_kernel.proofs.Pictures.{Picture, of_machine, of_config, stands_by, picture}
 

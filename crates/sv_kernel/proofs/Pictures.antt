@@ -10,10 +10,11 @@ use Rattle.sv_flat.specs.declared.design.Parts.{Parts}
 use Rattle.sv_flat.specs.State.{Store}
 use Rattle.sv_flat.specs.Config.{Config, Strobe}
 use Rattle.sv_kernel.specs.declared.machine.Machine.{Machine}
-use Rattle.sv_kernel.specs.Frames.{lefts}
-use Rattle.sv_kernel.specs.Values.{store_of}
+use Rattle.sv_kernel.specs.Frames.{all_left}
+use Rattle.sv_kernel.specs.Expressions.{store_of}
 use Rattle.sv_kernel.specs.Waits.{Awaited, awaited_at, awaited_by}
-use Rattle.sv_kernel.specs.Machine.{Stands, strobe_at}
+use Rattle.sv_kernel.specs.Machine.{Stands}
+use Rattle.sv_kernel.specs.Prints.{strobe_at}
 
 -- what is kept
 pub record Picture : Type 0 where
@@ -41,7 +42,7 @@ of_machine d m =
       finishing = m.finishing;
       running = m.running;
       store = store_of m.values.items;
-      remaining = lefts d m.processes.items;
+      remaining = all_left d m.processes.items;
       waiting = map (awaited_at d) m.waits.items;
       strobes = map (strobe_at d) m.strobes.items;
       regions = m.regions;

@@ -21,7 +21,7 @@ use Rattle.sv_flat.specs.declared.design.Parts.{Parts}
 use Rattle.sv_flat.specs.Built.{IsBuilt, IsBuiltForm}
 use Rattle.sv_flat.specs.Config.{Config, met_fault}
 use Rattle.sv_flat.specs.Expr.{Expr}
-use Rattle.sv_kernel.specs.Machine.{strobe_of}
+use Rattle.sv_kernel.specs.Prints.{strobe_of}
 use Rattle.sv_flat.specs.Effects.{write_occurred}
 use Rattle.sv_flat.specs.Effects.Scheduling.{scheduled, update_scheduled}
 use Rattle.std.proofs.lemmas.List.{append-nil}

@@ -24,8 +24,9 @@ use Rattle.sv_flat.proofs.Stepping.{slice_get-set_same}
 use Rattle.sv_flat.proofs.Wakes.{slice_get-set_other, states_after, regions_after, write_states}
 use Rattle.sv_kernel.specs.declared.frames.Frame.{Frame}
 use Rattle.sv_kernel.specs.declared.machine.Machine.{Machine}
-use Rattle.sv_kernel.specs.Values.{store_of, Sees}
-use Rattle.sv_kernel.specs.Waits.{Awaited, awaited, awaited_by, awaited_at, fires, woken_at, waits_after, ready_after, sides}
+use Rattle.sv_kernel.specs.Expressions.{store_of, Sees}
+use Rattle.sv_kernel.specs.Waits.{Awaited, awaited, awaited_by, awaited_at, fires}
+use Rattle.sv_kernel.specs.Wakes.{woken_at, waits_after, ready_after, sides}
 use Rattle.sv_kernel.specs.Machine.{Stands}
 use Rattle.sv_kernel.proofs.Pictures.{of_machine, stands_by, picture}
 
