@@ -16,7 +16,9 @@ use Rattle.sv_flat.specs.declared.stmt.Base.{Base}
 use Rattle.sv_flat.specs.declared.stmt.Base.TheVariants as base
 use Rattle.sv_flat.specs.declared.design.Parts.{Parts}
 use Rattle.sv_flat.specs.Expr.{Expr, Literal, Object, Unary, Binary, Convert, Widen}
-use Rattle.sv_flat.specs.Eval.{Valued, Operands, In_context, By_amount, Compared, By_truth, Operand, operands_of, is_in_context, width_of, is_signed, eval, value_of, with_result, with_both, by_operands, decides, bits, vector_in, binary_width}
+use Rattle.sv_flat.specs.declared.expr.Operands.{Operands}
+use Rattle.sv_flat.specs.declared.expr.Operands.TheVariants as operands
+use Rattle.sv_flat.specs.Eval.{Valued, Operand, operands_of, is_in_context, width_of, is_signed, eval, value_of, with_result, with_both, by_operands, decides, bits, vector_in, binary_width}
 use Rattle.sv_flat.specs.State.{View}
 use Rattle.sv_flat.specs.Targets.{based, spots_of, looked_through, range_of}
 use Rattle.sv_flat.specs.Process.{Cell}
@@ -43,14 +45,14 @@ known_both x y go k l h = known_then x (λ a. with_result y (go a)) k (λ a. kno
 
 known_operands : (k : Operands) (op : BinOp) (w : ℕ) (s : Bool) (wa : ℕ) (sa : Bool) (wb : ℕ) (sb : Bool) (a b : Operand)
     → ((n : ℕ) (t : Bool) → Known (a n t)) → ((n : ℕ) (t : Bool) → Known (b n t)) → Known (by_operands k op w s wa sa wb sb a b)
-known_operands In_context op w s wa sa wb sb a b h k =
+known_operands operands.InContext op w s wa sa wb sb a b h k =
     known_both (a w s) (b w s) _ (h w s) (k w s) (λ x y. record { value = val.Bits (binary_of op (vector_in x) (vector_in y)); is = refl })
-known_operands By_amount op w s wa sa wb sb a b h k =
+known_operands operands.ByAmount op w s wa sa wb sb a b h k =
     known_both (a w s) (b wb sb) _ (h w s) (k wb sb) (λ x y. record { value = val.Bits (binary_of op (vector_in x) (vector_in y)); is = refl })
-known_operands Compared op w s wa sa wb sb a b h k =
+known_operands operands.Compared op w s wa sa wb sb a b h k =
     known_both (a (max wa wb) (sa && sb)) (b (max wa wb) (sa && sb)) _ (h (max wa wb) (sa && sb)) (k (max wa wb) (sa && sb))
     (λ x y. record { value = _; is = refl })
-known_operands By_truth op w s wa sa wb sb a b h k = known_then (a wa sa) _ (h wa sa) (λ x. by_test x (decides op (truth (vector_in x))))
+known_operands operands.ByTruth op w s wa sa wb sb a b h k = known_then (a wa sa) _ (h wa sa) (λ x. by_test x (decides op (truth (vector_in x))))
   where
     by_test : (x : Val) (t : Bool)
         → Known (cond t (bits w s (one_bit (truth (vector_in x)))) (with_result (b wb sb) (λ y. bits w s (binary_of op (vector_in x) (vector_in y)))))
@@ -144,10 +146,10 @@ width_built os b (Unary op a) h = by_context (is_in_context op) (width_built os 
 width_built os b (Binary op x y) h = by_operands (operands_of op) (width_built os b x h.0) (width_built os b y h.1)
   where
     by_operands : (k : Operands) → IsWidth (width_of x) → IsWidth (width_of y) → IsWidth (binary_width k (width_of x) (width_of y))
-    by_operands In_context k l = max_width (width_of x) (width_of y) k l
-    by_operands By_amount k l = k
-    by_operands Compared k l = (omega arith, omega arith)
-    by_operands By_truth k l = (omega arith, omega arith)
+    by_operands operands.InContext k l = max_width (width_of x) (width_of y) k l
+    by_operands operands.ByAmount k l = k
+    by_operands operands.Compared k l = (omega arith, omega arith)
+    by_operands operands.ByTruth k l = (omega arith, omega arith)
 width_built os b (Convert t a) h = h.0
 width_built os b (Widen n t a) h = widened n (width_of a) h.0 (width_built os b a h.1)
 width_built os b e h = absurd h

@@ -84,9 +84,9 @@ slice_get-set_other (x ∷ xs) (suc i) (suc j) v h = slice_get-set_other xs i j 
 pub other_process : (q p : ProcessId) (c : Config) → p.0 ≢ q.0 → process_at (made_ready q c) p ≡ process_at c p
 other_process q p c h = by_state (process_at c q)
   where
-    by_state : (o : Option ProcessState) → slice_get (set_at o (λ s. record s { status = Ready }) q c.processes) p.0 ≡ slice_get c.processes p.0
+    by_state : (o : Option ProcessState) → slice_get (set_at o (λ s. record s { latest = Ready }) q c.processes) p.0 ≡ slice_get c.processes p.0
     by_state None = refl
-    by_state (Some s) = slice_get-set_other c.processes q.0 p.0 (record s { status = Ready }) h
+    by_state (Some s) = slice_get-set_other c.processes q.0 p.0 (record s { latest = Ready }) h
 
 -- a process for which the test does not hold stays as it is
 pub kept_process : {A : Type 0} (f : ProcessId → Bool) (n : ℕ) (xs : List A) (c : Config) (p : ProcessId) → f p ≡ false
@@ -130,13 +130,13 @@ module _ (d : Parts) (none : d.clockings ≡ []) (at : Place) (o : ObjId) (x : V
       k ∙ only_wakes (woken d Changed c new) new ∙ ap (λ (u : Config). record new { processes = u.processes; regions = u.regions }) (sym k)
 
   -- a process that does not wait for a change stays as it is
-  pub write_passes : (p : ProcessId) (q : ProcessState) → process_at c p ≡ Some q → is_watching q.status ≡ false
+  pub write_passes : (p : ProcessId) (q : ProcessState) → process_at c p ≡ Some q → is_watching q.latest ≡ false
       → process_at (write_occurred d at (Cell o 0 None) x c) p ≡ Some q
   write_passes p q is calm =
       let new = with_value o x c in
       let test : ProcessId → Bool = λ p. state_test (is_woken d Changed c new) (process_at c p) in
       ap (λ (e : Config). process_at e p) write_is
-      ∙ kept_process test 0 c.processes new p (ap (state_test (is_woken d Changed c new)) is ∙ not_wakes d Changed c new q.status calm)
+      ∙ kept_process test 0 c.processes new p (ap (state_test (is_woken d Changed c new)) is ∙ not_wakes d Changed c new q.latest calm)
       ∙ is
 
 -- ---- the woken by a test of their states
@@ -144,7 +144,7 @@ module _ (d : Parts) (none : d.clockings ≡ []) (at : Place) (o : ObjId) (x : V
 -- those that pass become ready
 abbrev pub states_after : (ProcessState → Bool) → List ProcessState → List ProcessState
 states_after t [] = []
-states_after t (q ∷ qs) = (if t q then record q { status = Ready } else q) ∷ states_after t qs
+states_after t (q ∷ qs) = (if t q then record q { latest = Ready } else q) ∷ states_after t qs
 
 -- and stand in the regions, by number
 abbrev pub regions_after : (ProcessState → Bool) → ℕ → List ProcessState → Regions → Regions
@@ -171,13 +171,13 @@ woken_from : (f : ProcessId → Bool) (t : ProcessState → Bool) (c : Config) (
     → all_made_ready (filter f (numbered_from n qs)) (record c { processes = pre ++ qs; regions = r })
     ≡ record c { processes = pre ++ states_after t qs; regions = regions_after t n qs r }
 woken_from f t c pre [] n r e h = refl
-woken_from f t c pre (q ∷ qs) n r e h = by_test (f (record { 0 = n })) refl (woken_from f t c (pre ++ q ∷ []) qs (n + 1)) (woken_from f t c (pre ++ record q { status = Ready } ∷ []) qs (n + 1))
+woken_from f t c pre (q ∷ qs) n r e h = by_test (f (record { 0 = n })) refl (woken_from f t c (pre ++ q ∷ []) qs (n + 1)) (woken_from f t c (pre ++ record q { latest = Ready } ∷ []) qs (n + 1))
   where
     p : ProcessId
     p = record { 0 = n }
 
     v : ProcessState
-    v = record q { status = Ready }
+    v = record q { latest = Ready }
 
     first : f p ≡ t q
     first = (let z : n ≡ n + 0 = omega arith in ap (λ m. f (record { 0 = m })) z ∙ h.at 0 q refl)
@@ -197,7 +197,7 @@ woken_from f t c pre (q ∷ qs) n r e h = by_test (f (record { 0 = n })) refl (w
     readied : made_ready p (here (pre ++ q ∷ qs) r) ≡ here (pre ++ v ∷ qs) (ready_in (front_of q.side) p r)
     readied =
         let is : slice_get (pre ++ q ∷ qs) n ≡ Some q = ap (slice_get (pre ++ q ∷ qs)) e ∙ get-append pre q qs in
-        ap (λ o. here (set_at o (λ s. record s { status = Ready }) p (pre ++ q ∷ qs)) (ready_in (front_of (side_in o)) p r)) is
+        ap (λ o. here (set_at o (λ s. record s { latest = Ready }) p (pre ++ q ∷ qs)) (ready_in (front_of (side_in o)) p r)) is
         ∙ ap (λ m. here (slice_set (pre ++ q ∷ qs) m v) (ready_in (front_of q.side) p r)) e
         ∙ ap (λ (us : List ProcessState). here us (ready_in (front_of q.side) p r)) (set-append pre q v qs)
 

@@ -88,11 +88,11 @@ module _ (d : Parts) where
   }
 
   -- a process that waits for a change becomes ready
-  ready_sound : (c : Config) → IsSound d c → (p : ProcessId) (q : ProcessState) → process_at c p ≡ Some q → is_watching q.status ≡ true → IsSound d (made_ready p c)
+  ready_sound : (c : Config) → IsSound d c → (p : ProcessId) (q : ProcessState) → process_at c p ≡ Some q → is_watching q.latest ≡ true → IsSound d (made_ready p c)
   ready_sound c k p q is waits =
-      let v : ProcessState = record q { status = Ready } in
+      let v : ProcessState = record q { latest = Ready } in
       let plain = all_at (IsPlainState d.objects) c.processes p.0 q is k.each_process in
-      let g : Option ProcessState → Config = λ o. record c { processes = set_at o (λ s. record s { status = Ready }) p c.processes; regions = ready_in (front_of (side_in o)) p c.regions } in
+      let g : Option ProcessState → Config = λ o. record c { processes = set_at o (λ s. record s { latest = Ready }) p c.processes; regions = ready_in (front_of (side_in o)) p c.regions } in
       let rs = plain_ready d.objects (front_of q.side) p c.regions (record { active = k.active; reactive = k.reactive }) in
       subst (IsSound d) (sym (ap g is)) (record {
         stored = k.stored;
@@ -114,7 +114,7 @@ module _ (d : Parts) where
       })
 
   abbrev waits_at : Config → ProcessId → Bool
-  waits_at c p = state_test (λ q. is_watching q.status) (process_at c p)
+  waits_at c p = state_test (λ q. is_watching q.latest) (process_at c p)
 
   -- and each of those for which a test holds that only such processes pass
   woken_sound : {A : Type 0} (f : ProcessId → Bool) (n : ℕ) (xs : List A) (c : Config) → IsSound d c → ((p : ProcessId) → n ≤ p.0 → f p ≡ true → waits_at c p ≡ true)
@@ -133,11 +133,11 @@ module _ (d : Parts) where
       by_test false e i = i c k (λ p l t. h p (omega (arith, l)) t)
       by_test true e i = by_state (process_at c here) refl (h here (omega arith) e)
         where
-          by_state : (o : Option ProcessState) → process_at c here ≡ o → state_test (λ q. is_watching q.status) o ≡ true → IsSound d (all_made_ready (filter f (numbered_from (n + 1) xs)) (made_ready here c))
+          by_state : (o : Option ProcessState) → process_at c here ≡ o → state_test (λ q. is_watching q.latest) o ≡ true → IsSound d (all_made_ready (filter f (numbered_from (n + 1) xs)) (made_ready here c))
           by_state None is t = absurd (cc)
           by_state (Some q) is t =
               i (made_ready here c) (ready_sound c k here q is t)
-              (λ p l t. ap (state_test (λ q. is_watching q.status)) (other_process here p c (later p l)) ∙ h p (omega (arith, l)) t)
+              (λ p l t. ap (state_test (λ q. is_watching q.latest)) (other_process here p c (later p l)) ∙ h p (omega (arith, l)) t)
 
   -- who is woken waits
   wakes_waiting : (old new : Config) (p : ProcessId) → state_test (is_woken d Changed old new) (process_at old p) ≡ true → waits_at old p ≡ true
@@ -147,9 +147,9 @@ module _ (d : Parts) where
       by_watching s true e h = refl
       by_watching s false e h = let z = not_wakes d Changed old new s e in cc
 
-      by_state : (o : Option ProcessState) → state_test (is_woken d Changed old new) o ≡ true → state_test (λ q. is_watching q.status) o ≡ true
+      by_state : (o : Option ProcessState) → state_test (is_woken d Changed old new) o ≡ true → state_test (λ q. is_watching q.latest) o ≡ true
       by_state None h = cc
-      by_state (Some q) h = by_watching q.status (is_watching q.status) refl h
+      by_state (Some q) h = by_watching q.latest (is_watching q.latest) refl h
 
   pub written_sound : IsBuilt d → (at : Place) (o : ObjId) (x : Val) → IsFor d.objects o x → (c : Config) → IsSound d c → IsSound d (write_occurred d at (Cell o 0 None) x c)
   written_sound b at o x h c k =

@@ -3,11 +3,12 @@ ghost use Rattle.std.specs.Prelude.{IfOk, ◌≡◌};
 
 use crate::{
     Choices, Design, Expr, ExprForm, Form, Instance, Parts, PrintKind, Process, ProcessKind,
-    Routine, Scale, Stmt, is_built,
+    Routine, Scale, Stmt, first_bits, is_built,
 };
 use std::alloc::Global;
+use std::process::Abort;
 use std::test::Fail;
-use sv_value::{Bits, NoMemory, Piece, Place, RoutineId, Seq, Side, Text};
+use sv_value::{Bits, Integral, NoMemory, Piece, Place, RoutineId, Seq, Side, Text};
 
 const HERE: Place = Place {
     file: 0,
@@ -83,62 +84,93 @@ fn display(alloc: Global, kind: PrintKind, length: usize) -> Result<Form, NoMemo
     })
 }
 
-fn delay(alloc: Global, form: ExprForm) -> Result<Form, NoMemory> {
+fn delay(alloc: Global) -> Result<Form, NoMemory> {
+    let literal = ExprForm::Literal {
+        value: Bits::new(32, true, 5, 0),
+        fill: None,
+    };
     Ok(Form::Delay {
         amount: Expr {
-            form: Box::new(alloc, form)?,
+            form: Box::new(alloc, literal)?,
         },
         in_ticks: false,
     })
 }
 
+/// A design of one `initial` procedure with this statement is built, or it is not.
+fn expect_built<R: Abort>(rt: &R, alloc: Global, form: Form, wanted: bool) -> Result<(), NoMemory> {
+    let initial = process(alloc, ProcessKind::Initial, None);
+    let parts = parts(alloc, form, initial)?;
+    assert_eq!(rt; is_built(&parts), wanted);
+    Ok(())
+}
+
+/// A design with this process is not built.
+fn expect_refused<R: Abort>(rt: &R, alloc: Global, process: Process) -> Result<(), NoMemory> {
+    let parts = parts(alloc, Form::Null, process)?;
+    assert!(rt; !is_built(&parts));
+    Ok(())
+}
+
+fn same<R: Abort>(rt: &R, got: usize, wanted: usize) {
+    assert_eq!(rt; got, wanted);
+}
+
+/// The lists of a design of one process have these lengths.
+fn expect_lists<R: Abort>(rt: &R, design: &Design) {
+    same(rt, design.objects().len(), 0);
+    same(rt, design.processes().len(), 1);
+    same(rt, design.classes().len(), 0);
+    same(rt, design.routines().len(), 1);
+    same(rt, design.body(RoutineId(0)).len(), 1);
+    same(rt, design.body(RoutineId(1)).len(), 0);
+    same(rt, design.clockings().len(), 0);
+    same(rt, design.instances().len(), 1);
+    same(rt, design.scale().unit as usize, 6);
+}
+
 #[test]
 fn gives_back_its_parts(rt: HostRuntime) -> Result<(), Fail> {
     let alloc = rt.alloc();
-    let parts = parts(
-        alloc,
-        Form::Finish,
-        process(alloc, ProcessKind::Initial, None),
-    )?;
+    let initial = process(alloc, ProcessKind::Initial, None);
+    let parts = parts(alloc, Form::Finish, initial)?;
     assert!(rt; is_built(&parts));
-    let design = Design::new(parts);
-    assert_eq!(rt; design.objects().len(), 0);
-    assert_eq!(rt; design.processes().len(), 1);
-    assert_eq!(rt; design.classes().len(), 0);
-    assert_eq!(rt; design.routines().len(), 1);
-    assert_eq!(rt; design.body(RoutineId(0)).len(), 1);
-    assert_eq!(rt; design.body(RoutineId(1)).len(), 0);
-    assert_eq!(rt; design.clockings().len(), 0);
-    assert_eq!(rt; design.instances().len(), 1);
-    assert_eq!(rt;
-        design.scale(),
-        Scale {
-            unit: 6,
-            precision: 3
-        }
-    );
-    assert_eq!(rt; design.scale().unit_ticks(), 1000);
+    expect_lists(&rt, &Design::new(parts));
     Ok(())
 }
 
 #[test]
 fn takes_what_is_built(rt: HostRuntime) -> Result<(), Fail> {
     let alloc = rt.alloc();
-    let initial = |form| parts(alloc, form, process(alloc, ProcessKind::Initial, None));
-    let literal = ExprForm::Literal {
-        value: Bits::new(32, true, 5, 0),
-        fill: None,
-    };
-    assert!(rt; is_built(&initial(delay(alloc, literal)?)?));
-    assert!(rt; is_built(&initial(display(alloc, PrintKind::Now, 3)?)?));
-    assert!(rt; is_built(&initial(display(alloc, PrintKind::Strobe, 3)?)?));
-    assert!(rt; !is_built(&initial(display(alloc, PrintKind::Monitor, 3)?)?));
-    assert!(rt; !is_built(&initial(Form::Exit)?));
-    let always = process(alloc, ProcessKind::Always, None);
-    assert!(rt; !is_built(&parts(alloc, Form::Null, always)?));
-    let of_program = process(alloc, ProcessKind::Initial, Some(0));
-    assert!(rt; !is_built(&parts(alloc, Form::Null, of_program)?));
+    expect_built(&rt, alloc, delay(alloc)?, true)?;
+    expect_built(&rt, alloc, display(alloc, PrintKind::Now, 3)?, true)?;
+    expect_built(&rt, alloc, display(alloc, PrintKind::Strobe, 3)?, true)?;
+    expect_built(&rt, alloc, display(alloc, PrintKind::Monitor, 3)?, false)?;
+    expect_built(&rt, alloc, Form::Exit, false)?;
+    expect_refused(&rt, alloc, process(alloc, ProcessKind::Always, None))?;
+    expect_refused(&rt, alloc, process(alloc, ProcessKind::Initial, Some(0)))?;
     Ok(())
+}
+
+#[test]
+fn units_have_ticks(rt: HostRuntime) {
+    let scale = Scale {
+        unit: 6,
+        precision: 3,
+    };
+    assert_eq!(rt; scale.unit_ticks(), 1000);
+}
+
+#[test]
+fn types_have_a_first_value(rt: HostRuntime) {
+    for (four_state, words) in [(true, (0, 15)), (false, (0, 0))] {
+        let ty = Integral {
+            width: 4,
+            signed: false,
+            four_state,
+        };
+        assert_eq!(rt; first_bits(ty).words(), words);
+    }
 }
 
 #[test]
@@ -147,8 +179,8 @@ fn listed_numbers_end_with_zeros(rt: HostRuntime) -> Result<(), Fail> {
     numbers.push(7)?;
     numbers.push(2)?;
     let choices = Choices::Listed(numbers);
-    assert_eq!(rt; choices.number(0), 7);
-    assert_eq!(rt; choices.number(1), 2);
-    assert_eq!(rt; choices.number(2), 0);
+    for (place, number) in [(0, 7), (1, 2), (2, 0)] {
+        assert_eq!(rt; choices.number(place), number);
+    }
     Ok(())
 }

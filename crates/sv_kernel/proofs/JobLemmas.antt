@@ -22,7 +22,7 @@ use Rattle.sv_flat.proofs.Wakes.{states_after, regions_after, write_states}
 use Rattle.sv_kernel.specs.declared.machine.Machine.{Machine}
 use Rattle.sv_kernel.specs.Frames.{stmts_left}
 use Rattle.sv_kernel.specs.Machine.{Stands, Tracks}
-use Rattle.sv_kernel.proofs.ArmLemmas.{same_rests}
+use Rattle.sv_kernel.proofs.ProcessLemmas.{same_rests}
 
 module _ (d : Parts) (b : IsBuilt d) (o : ObjId) (x : Val) where
   abbrev wrote : Config → Config

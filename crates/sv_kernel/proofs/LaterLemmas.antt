@@ -21,12 +21,14 @@ use Rattle.sv_flat.proofs.StatementSound.{scheduled_sound, strobe_sound}
 use Rattle.sv_kernel.specs.declared.frames.Frame.{Frame}
 use Rattle.sv_kernel.specs.declared.machine.Machine.{Machine}
 use Rattle.sv_kernel.specs.declared.machine.Kept.{Kept}
-use Rattle.sv_kernel.specs.Frames.{lefts, stmts, stmts_left}
-use Rattle.sv_kernel.specs.Values.{store_of}
-use Rattle.sv_kernel.specs.Machine.{Tracks, strobe_at}
+use Rattle.sv_kernel.specs.Frames.{all_left, stmts, stmts_left, stmt_at}
+use Rattle.sv_kernel.specs.Expressions.{store_of}
+use Rattle.sv_kernel.specs.Machine.{Tracks}
+use Rattle.sv_kernel.specs.Prints.{strobe_at}
 use Rattle.sv_kernel.specs.Statements.{Runs}
-use Rattle.sv_kernel.specs.Waits.{Awaited, awaited_at, awaited_by, stmt_at, watches_in}
+use Rattle.sv_kernel.specs.Waits.{Awaited, awaited_at, awaited_by, watches_in}
 use Rattle.sv_kernel.proofs.StateLemmas.{left-state, any_records}
+use Rattle.sv_kernel.proofs.Pictures.{Picture, of_machine, of_config, stands_by, picture}
 
 module _ (d : Parts) (m : Machine) (p : ProcessId) (side : Side) (c : Config) (u : ProcessState) (rest : List Todo) (h : Runs d m p side c u rest) where
   -- the process waits at an event control
@@ -34,28 +36,18 @@ module _ (d : Parts) (m : Machine) (p : ProcessId) (side : Side) (c : Config) (u
       → Tracks d n (watching p (record u { rest = rest }) (watches_in (stmt_at d at)) c)
   waits_tracks n at is waits =
       let s = h.stands in
-      let v : ProcessState = record u { rest = rest; status = Waiting (Watches (watches_in (stmt_at d at)) None) } in
+      let v : ProcessState = record u { rest = rest; latest = Waiting (Watches (watches_in (stmt_at d at)) None) } in
       let w : Option Awaited = Some (record { watches = watches_in (stmt_at d at); scope = None }) in
+      let waiting = ap (map (awaited_at d)) waits ∙ map-set (awaited_at d) m.waits.items p.0 (Some at)
+      ∙ ap (λ (xs : List (Option Awaited)). slice_set xs p.0 w) s.waiting ∙ sym (map-set awaited_by c.processes p.0 v) in
       record {
         time = ap (λ (y : Machine). y.time) is ∙ s.time;
         fault = ap (λ (y : Machine). y.fault) is ∙ h.fault;
-        going = λ _. record {
-          time = ap (λ (y : Machine). y.time) is ∙ s.time;
-          phase = ap (λ (y : Machine). y.phase) is ∙ s.phase;
-          executed = ap (λ (y : Machine). y.executed) is ∙ s.executed;
-          finishing = ap (λ (y : Machine). y.finishing) is ∙ s.finishing;
-          running = ap (λ (y : Machine). y.running) is;
-          store = ap (λ (y : Machine). store_of y.values.items) is ∙ s.store;
-          remaining = ap (λ (y : Machine). lefts d y.processes.items) is ∙ s.remaining ∙ sym (left-state p v c);
-          waiting = ap (map (awaited_at d)) waits ∙ map-set (awaited_at d) m.waits.items p.0 (Some at)
-              ∙ ap (λ (xs : List (Option Awaited)). slice_set xs p.0 w) s.waiting ∙ sym (map-set awaited_by c.processes p.0 v);
-          strobes = ap (λ (y : Machine). map (strobe_at d) y.strobes.items) is ∙ s.strobes;
-          regions = ap (λ (y : Machine). y.regions) is ∙ s.regions;
-          future = ap (λ (y : Machine). y.wheel.events) is ∙ s.future;
-          used_active = ap (λ (y : Machine). y.used_active) is ∙ s.used_active;
-          used_reactive = ap (λ (y : Machine). y.used_reactive) is ∙ s.used_reactive;
-          last = subst (λ (y : Machine). y.wheel.last ≤ y.time) (sym is) s.last;
-        };
+        going = λ _. stands_by d n _ _
+            (ap (of_machine d) is
+            ∙ ap (λ (z : Picture). record z { running = None; waiting = map (awaited_at d) n.waits.items }) (picture s)
+            ∙ (λ i. record (of_config c (stmts_left c)) { running = None; remaining = sym (left-state p v c) i; waiting = waiting i }))
+            (subst (λ (y : Machine). y.wheel.last ≤ y.time) (sym is) s.last);
       }
 
   -- a fault is met
@@ -94,22 +86,27 @@ module _ (d : Parts) (m : Machine) (p : ProcessId) (side : Side) (c : Config) (u
     plain = h.plain;
     quiet = h.quiet;
     left = h.left;
-    stands = (let s = h.stands in record {
-      time = ap (λ (y : Machine). y.time) is ∙ s.time;
-      phase = ap (λ (y : Machine). y.phase) is ∙ s.phase;
-      executed = ap (λ (y : Machine). y.executed) is ∙ s.executed;
-      finishing = ap (λ (y : Machine). y.finishing) is ∙ s.finishing;
-      running = ap (λ (y : Machine). y.running) is ∙ s.running;
-      store = ap (λ (y : Machine). store_of y.values.items) is ∙ s.store;
-      remaining = ap (λ (y : Machine). lefts d y.processes.items) is ∙ s.remaining;
-      waiting = ap (λ (y : Machine). map (awaited_at d) y.waits.items) is ∙ s.waiting;
-      strobes = ap (map (strobe_at d)) items ∙ map-append (strobe_at d) m.strobes.items (x ∷ []) ∙ ap (λ (ss : List Strobe). ss ++ strobe_at d x ∷ []) s.strobes;
-      regions = ap (λ (y : Machine). y.regions) is ∙ s.regions;
-      future = ap (λ (y : Machine). y.wheel.events) is ∙ s.future;
-      used_active = ap (λ (y : Machine). y.used_active) is ∙ s.used_active;
-      used_reactive = ap (λ (y : Machine). y.used_reactive) is ∙ s.used_reactive;
-      last = subst (λ (y : Machine). y.wheel.last ≤ y.time) (sym is) s.last;
-    });
+    stands = (let s = h.stands in let added = ap (map (strobe_at d)) items ∙ map-append (strobe_at d) m.strobes.items (x ∷ []) in
+        stands_by d n _ _
+        (ap (of_machine d) is
+        ∙ ap (λ (ss : List Strobe). record (of_machine d m) { strobes = ss }) added
+        ∙ ap (λ (z : Picture). record z { strobes = z.strobes ++ strobe_at d x ∷ [] }) (picture s))
+        (subst (λ (y : Machine). y.wheel.last ≤ y.time) (sym is) s.last));
+  }
+
+  -- `$finish` ran
+  pub finishes : Runs d (record m { finishing = true }) p side (record c { finishing = true }) u rest
+  finishes = record {
+    sound = h.sound;
+    running = h.running;
+    going = h.going;
+    fault = h.fault;
+    on = h.on;
+    same_side = h.same_side;
+    plain = h.plain;
+    quiet = h.quiet;
+    left = h.left;
+    stands = stands_by d _ _ _ (ap (λ (z : Picture). record z { finishing = true }) (picture h.stands)) h.stands.last;
   }
 
   -- a job was added for this slot or a later one
@@ -134,22 +131,7 @@ module _ (d : Parts) (m : Machine) (p : ProcessId) (side : Side) (c : Config) (u
         plain = h.plain;
         quiet = h.quiet;
         left = h.left;
-        stands = (let s = h.stands in record {
-          time = s.time;
-          phase = s.phase;
-          executed = s.executed;
-          finishing = s.finishing;
-          running = s.running;
-          store = s.store;
-          remaining = s.remaining;
-          waiting = s.waiting;
-          strobes = s.strobes;
-          regions = ap (job_in (updates_of u.side) j) s.regions;
-          future = s.future;
-          used_active = s.used_active;
-          used_reactive = s.used_reactive;
-          last = s.last;
-        });
+        stands = stands_by d _ _ _ (ap (λ (z : Picture). record z { regions = job_in (updates_of u.side) j z.regions }) (picture h.stands)) h.stands.last;
       })
       by_now false is =
           let e : Event = record { time = t; region = updates_of u.side; due = Work j } in
@@ -163,22 +145,7 @@ module _ (d : Parts) (m : Machine) (p : ProcessId) (side : Side) (c : Config) (u
             plain = h.plain;
             quiet = h.quiet;
             left = h.left;
-            stands = (let s = h.stands in record {
-              time = s.time;
-              phase = s.phase;
-              executed = s.executed;
-              finishing = s.finishing;
-              running = s.running;
-              store = s.store;
-              remaining = s.remaining;
-              waiting = s.waiting;
-              strobes = s.strobes;
-              regions = s.regions;
-              future = ap (λ (es : List Event). es ++ e ∷ []) s.future;
-              used_active = s.used_active;
-              used_reactive = s.used_reactive;
-              last = s.last;
-            });
+            stands = stands_by d _ _ _ (ap (λ (z : Picture). record z { future = z.future ++ e ∷ [] }) (picture h.stands)) h.stands.last;
           })
 
   -- the moment of an update is not too late

@@ -21,7 +21,7 @@ use Rattle.sv_flat.specs.declared.design.Parts.{Parts}
 use Rattle.sv_flat.specs.Built.{IsBuilt, IsBuiltForm}
 use Rattle.sv_flat.specs.Config.{Config, met_fault}
 use Rattle.sv_flat.specs.Expr.{Expr}
-use Rattle.sv_kernel.specs.Machine.{strobe_of}
+use Rattle.sv_kernel.specs.Prints.{strobe_of}
 use Rattle.sv_flat.specs.Effects.{write_occurred}
 use Rattle.sv_flat.specs.Effects.Scheduling.{scheduled, update_scheduled}
 use Rattle.std.proofs.lemmas.List.{append-nil}
@@ -78,7 +78,7 @@ module _ (d : Parts) (b : IsBuilt d) (p : ProcessId) (u : ProcessState) (s : Stm
   silent_records (form.At ws) h q = refl
   silent_records (form.Print print.Now ps es) h q = absurd q
   silent_records (form.Print print.Strobe ps es) h q = gone_records p u rest _
-  silent_records form.Finish h q = refl
+  silent_records form.Finish h q = gone_records p u rest _
   silent_records m h q = refl
 
 -- ---- one item

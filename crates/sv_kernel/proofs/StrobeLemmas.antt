@@ -22,9 +22,10 @@ use Rattle.sv_flat.specs.Sound.{IsPlainStrobe}
 use Rattle.sv_flat.specs.Short.{text_now}
 use Rattle.sv_flat.proofs.Values.{values_are}
 use Rattle.sv_flat.proofs.Weights.{all_at}
-use Rattle.sv_kernel.specs.declared.line.Line.{Line}
+use Rattle.sv_kernel.specs.declared.log.Line.{Line}
 use Rattle.sv_kernel.specs.declared.machine.Kept.{Kept}
-use Rattle.sv_kernel.specs.Machine.{IsPlainKept, record_of, records_of, strobe_of, strobe_at}
+use Rattle.sv_kernel.specs.Prints.{IsPlainKept, strobe_of, strobe_at}
+use Rattle.sv_kernel.specs.Log.{record_of, records_of}
 
 -- ---- the text of a strobe
 

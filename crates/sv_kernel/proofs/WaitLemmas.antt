@@ -12,9 +12,9 @@ use Rattle.sv_flat.specs.Built.{IsBuilt}
 use Rattle.sv_flat.proofs.Weights.{there, ready_weight, one, one_self, once, not_contained}
 use Rattle.sv_flat.proofs.Room.{ones, all_count, count_processes}
 use Rattle.sv_kernel.specs.declared.frames.Frame.{Frame}
-use Rattle.sv_kernel.specs.declared.values.Change.{Change}
-use Rattle.sv_kernel.specs.Values.{Sees}
-use Rattle.sv_kernel.specs.Waits.{woken_at, waits_after, ready_after, waits_weight, sides, waits_until, ready_until, weight_from, TriedOne, Tried}
+use Rattle.sv_kernel.specs.declared.expressions.Change.{Change}
+use Rattle.sv_kernel.specs.Expressions.{Sees}
+use Rattle.sv_kernel.specs.Wakes.{woken_at, waits_after, ready_after, waits_weight, sides, waits_until, ready_until, weight_from, TriedOne, Tried}
 
 -- ---- one more is tried
 

@@ -24,9 +24,11 @@ use Rattle.sv_flat.proofs.Stepping.{slice_get-set_same}
 use Rattle.sv_flat.proofs.Wakes.{slice_get-set_other, states_after, regions_after, write_states}
 use Rattle.sv_kernel.specs.declared.frames.Frame.{Frame}
 use Rattle.sv_kernel.specs.declared.machine.Machine.{Machine}
-use Rattle.sv_kernel.specs.Values.{store_of, Sees}
-use Rattle.sv_kernel.specs.Waits.{Awaited, awaited, awaited_by, awaited_at, fires, woken_at, waits_after, ready_after, sides}
+use Rattle.sv_kernel.specs.Expressions.{store_of, Sees}
+use Rattle.sv_kernel.specs.Waits.{Awaited, awaited, awaited_by, awaited_at, fires}
+use Rattle.sv_kernel.specs.Wakes.{woken_at, waits_after, ready_after, sides}
 use Rattle.sv_kernel.specs.Machine.{Stands}
+use Rattle.sv_kernel.proofs.Pictures.{of_machine, stands_by, picture}
 
 -- ---- the store
 
@@ -66,7 +68,7 @@ module _ (d : Parts) (c : Config) (vs : List Vector) (e : store_of vs ≡ c.stor
 -- ---- the waits
 
 woken_is : (d : Parts) (c new : Config) (q : ProcessState) → is_woken d Changed c new q ≡ fires d c new (awaited_by q)
-woken_is d c new q = by_status q.status
+woken_is d c new q = by_status q.latest
   where
     by_status : (s : Status) → wakes d Changed c new s ≡ fires d c new (awaited s)
     by_status Ready = refl
@@ -99,7 +101,7 @@ module _ (d : Parts) (c new : Config) where
       let first : awaited_at d w ≡ awaited_by q = head e in
       ap (λ (b : Bool). awaited_at d (if b then None else w) ∷ map (awaited_at d) (waits_after g ws)) (same_test w q first)
       ∙ ap (λ (a : Option Awaited). a ∷ map (awaited_at d) (waits_after g ws)) (by_test (t q) first)
-      ∙ ap (λ (xs : List (Option Awaited)). awaited_by (if t q then record q { status = Ready } else q) ∷ xs) (waits_same ws qs (tail e))
+      ∙ ap (λ (xs : List (Option Awaited)). awaited_by (if t q then record q { latest = Ready } else q) ∷ xs) (waits_same ws qs (tail e))
     where
       head : {a b : Option Awaited} {xs ys : List (Option Awaited)} → a ∷ xs ≡ b ∷ ys → a ≡ b
       head h = cc
@@ -107,7 +109,7 @@ module _ (d : Parts) (c new : Config) where
       tail : {a b : Option Awaited} {xs ys : List (Option Awaited)} → a ∷ xs ≡ b ∷ ys → xs ≡ ys
       tail h = cc
 
-      by_test : (b : Bool) → awaited_at d w ≡ awaited_by q → awaited_at d (if b then None else w) ≡ awaited_by (if b then record q { status = Ready } else q)
+      by_test : (b : Bool) → awaited_at d w ≡ awaited_by q → awaited_at d (if b then None else w) ≡ awaited_by (if b then record q { latest = Ready } else q)
       by_test true h = refl
       by_test false h = h
   waits_same [] (q ∷ qs) e = absurd (cc)
@@ -149,21 +151,14 @@ written_stands d b m n at o x c rests k s is values waits regions =
     let new = with_value o (val.Bits x) c in
     let old_view = sees_old d c m.values.items s.store in
     let new_view = sees_new d c m.values.items s.store o x in
-    subst (λ (e : Config). Stands d n e rests) (sym (write_states d b.no_clockings at o (val.Bits x) c)) (record {
-      time = ap (λ (y : Machine). y.time) is ∙ s.time;
-      phase = ap (λ (y : Machine). y.phase) is ∙ s.phase;
-      executed = ap (λ (y : Machine). y.executed) is ∙ s.executed;
-      finishing = ap (λ (y : Machine). y.finishing) is ∙ s.finishing;
-      running = ap (λ (y : Machine). y.running) is ∙ s.running;
-      store = ap store_of values ∙ store_set m.values.items o.0 x ∙ ap (λ (y : Store). changed_at y o.0 (stored_over 0 None (val.Bits x))) s.store;
-      remaining = ap (λ (y : Machine). Rattle.sv_kernel.specs.Frames.lefts d y.processes.items) is ∙ s.remaining;
-      waiting = ap (map (awaited_at d)) (waits (seen d c None) (seen d new None) old_view new_view) ∙ waits_same d c new m.waits.items c.processes s.waiting;
-      strobes = ap (λ (y : Machine). map (Rattle.sv_kernel.specs.Machine.strobe_at d) y.strobes.items) is ∙ s.strobes;
-      regions = regions (seen d c None) (seen d new None) old_view new_view
-          ∙ ready_same d c new 0 m.waits.items c.processes (sides d) m.regions s.waiting k.sides
-          ∙ ap (regions_after (is_woken d Changed c new) 0 c.processes) s.regions;
-      future = ap (λ (y : Machine). y.wheel.events) is ∙ s.future;
-      used_active = ap (λ (y : Machine). y.used_active) is ∙ s.used_active;
-      used_reactive = ap (λ (y : Machine). y.used_reactive) is ∙ s.used_reactive;
-      last = subst (λ (y : Machine). y.wheel.last ≤ y.time) (sym is) s.last;
-    })
+    let store : Store → Store = λ y. changed_at y o.0 (stored_over 0 None (val.Bits x)) in
+    let values : store_of n.values.items ≡ store (store_of m.values.items) = ap store_of values ∙ store_set m.values.items o.0 x in
+    let waits = ap (map (awaited_at d)) (waits (seen d c None) (seen d new None) old_view new_view) ∙ waits_same d c new m.waits.items c.processes s.waiting in
+    let regions = regions (seen d c None) (seen d new None) old_view new_view
+    ∙ ready_same d c new 0 m.waits.items c.processes (sides d) m.regions s.waiting k.sides
+    ∙ ap (regions_after (is_woken d Changed c new) 0 c.processes) s.regions in
+    subst (λ (e : Config). Stands d n e rests) (sym (write_states d b.no_clockings at o (val.Bits x) c))
+    (stands_by d n _ rests
+    (ap (of_machine d) is
+    ∙ (λ i. record (picture s i) { store = (values ∙ ap store s.store) i; waiting = waits i; regions = regions i }))
+    (subst (λ (y : Machine). y.wheel.last ≤ y.time) (sym is) s.last))

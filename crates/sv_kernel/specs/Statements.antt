@@ -1,19 +1,17 @@
 -- What the code of a statement owes: the machine keeps what the definitions leave, and the lines are the records that they add.
-use Rattle.std.specs.Prelude.{◌≡◌, ◌++◌, ℕ, List, Option, Some, None, IsNone, Ok, Err, slice_set}
+use Rattle.std.specs.Prelude.{◌≡◌, ◌++◌, List, Some, None, IsNone, slice_set}
 use Rattle.std.specs.List.{AllByRecursion}
 use Rattle.sv_value.specs.declared.number.ProcessId.{ProcessId}
-use Rattle.sv_value.specs.declared.place.FaultKind.TheVariants.{Length}
 use Rattle.sv_value.specs.declared.schedule.Side.{Side}
-use Rattle.sv_value.specs.declared.val.Val.TheVariants as val
 use Rattle.sv_flat.specs.declared.design.Parts.{Parts}
-use Rattle.sv_flat.specs.Eval.{Valued}
 use Rattle.sv_flat.specs.Config.{Config, process_at}
 use Rattle.sv_flat.specs.Process.{ProcessState, Todo}
 use Rattle.sv_flat.specs.Sound.{IsSound, IsPlainState, IsPlainTodo}
-use Rattle.sv_kernel.specs.declared.line.Line.{Line}
+use Rattle.sv_kernel.specs.declared.log.Line.{Line}
 use Rattle.sv_kernel.specs.declared.machine.Machine.{Machine}
 use Rattle.sv_kernel.specs.Frames.{stmts, stmts_left}
-use Rattle.sv_kernel.specs.Machine.{Stands, Tracks, records_of}
+use Rattle.sv_kernel.specs.Machine.{Stands, Tracks}
+use Rattle.sv_kernel.specs.Log.{records_of}
 use Rattle.sv_kernel.specs.Waits.{awaited_by}
 
 -- a process of a side runs, and a machine stands for it with the statement taken off that is executed
@@ -40,8 +38,3 @@ Does d m n p side f = (c : Config) (u : ProcessState) (rest : List Todo) → Run
 -- and these are the records that were added
 abbrev pub Adds : Parts → Machine → ProcessId → Side → Leaves → List Line → Type 0
 Adds d m p side f ls = (c : Config) (u : ProcessState) (rest : List Todo) → Runs d m p side c u rest → (f c u rest).records ≡ c.records ++ records_of ls
-
--- a text, where there is none the fault of one that is too long
-abbrev pub IsText : Option (List ℕ) → Valued → Type 0
-IsText (Some t) v = v ≡ Ok (val.Text t)
-IsText None v = v ≡ Err Length

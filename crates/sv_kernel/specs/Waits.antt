@@ -1,23 +1,23 @@
--- What processes wait for, as positions of event controls (IEEE 1800-2017, 9.4.2).
-use Rattle.std.specs.Prelude.{◌≡◌, ℕ, zero, suc, ◌+◌, ◌≤◌, Bool, true, false, List, [], ◌∷◌, Option, None, Some, length, map, slice_get, slice_set, slice_index_or, sum_by, is_some, if◌then◌else◌}
+-- What processes wait for: positions of event controls, and moments (IEEE 1800-2017, 9.4.1 and 9.4.2).
+use Rattle.std.specs.Prelude.{◌≡◌, ℕ, zero, suc, ◌+◌, ◌≤◌, Bool, true, false, List, [], ◌∷◌, Option, None, Some, ◌^◌, ◌++◌, nat_lt, if◌then◌else◌}
 use Rattle.sv_value.specs.declared.number.ProcessId.{ProcessId}
 use Rattle.sv_value.specs.declared.schedule.Side.{Side}
-use Rattle.sv_value.specs.Vector.{Vector}
-use Rattle.sv_value.specs.Regions.{Regions, ready_in, front_of, standing}
+use Rattle.sv_value.specs.Regions.{ready_in, front_of, idle_of}
 use Rattle.sv_flat.specs.declared.process.Watch.{Watch}
 use Rattle.sv_flat.specs.declared.stmt.Stmt.{Stmt}
 use Rattle.sv_flat.specs.declared.stmt.Form.{Form}
-use Rattle.sv_flat.specs.declared.stmt.Form.TheVariants as form
 use Rattle.sv_flat.specs.declared.design.Parts.{Parts}
-use Rattle.sv_flat.specs.State.{Name, View}
+use Rattle.sv_flat.specs.State.{Name}
 use Rattle.sv_flat.specs.Process.{Status, Waiting, Watches, ProcessState}
 use Rattle.sv_flat.specs.Config.{Config, seen}
 use Rattle.sv_flat.specs.Woken.{Changed, some_fires}
 use Rattle.sv_kernel.specs.declared.frames.Frame.{Frame}
-use Rattle.sv_kernel.specs.Frames.{body_of}
-use Rattle.sv_kernel.specs.declared.values.Change.{Change}
-use Rattle.sv_kernel.specs.Values.{Sees}
-use Rattle.sv_flat.specs.Sound.{side_of_process, weight_of_all}
+use Rattle.sv_kernel.specs.Frames.{stmt_at}
+use Rattle.sv_value.specs.declared.schedule.Due.TheVariants.{Resume}
+use Rattle.sv_value.specs.declared.place.Place.{Place}
+use Rattle.sv_value.specs.declared.place.FaultKind.TheVariants.{Time}
+use Rattle.sv_kernel.specs.declared.machine.Machine.{Machine}
+use Rattle.sv_flat.specs.declared.stmt.Form.TheVariants as form
 
 -- event expressions, as seen from a scope
 pub record Awaited : Type 0 where
@@ -31,7 +31,7 @@ awaited s = None
 
 -- what a process waits for
 abbrev pub awaited_by : ProcessState → Option Awaited
-awaited_by q = awaited q.status
+awaited_by q = awaited q.latest
 
 -- the event expressions of an event control
 abbrev pub watches_of : Form → List Watch
@@ -43,10 +43,6 @@ abbrev pub watches_in : Option Stmt → List Watch
 watches_in None = []
 watches_in (Some s) = watches_of s.form
 
--- the statement at a position
-abbrev pub stmt_at : Parts → Frame → Option Stmt
-stmt_at d f = slice_get (body_of d f.body) f.next
-
 -- what the process at an event control waits for
 abbrev pub awaited_at : Parts → Option Frame → Option Awaited
 awaited_at d None = None
@@ -57,66 +53,25 @@ abbrev pub fires : Parts → Config → Config → Option Awaited → Bool
 fires d old new None = false
 fires d old new (Some w) = some_fires w.watches Changed (seen d old w.scope) (seen d new w.scope)
 
--- ---- the waits after a change
+-- the running process waits for its turn in the slot
+abbrev pub turned_in : ProcessId → Side → Machine → Machine
+turned_in p s m = record m { running = None; regions = ready_in (idle_of s) p m.regions }
 
--- whether a change fires what the process at an event control waits for
-abbrev pub woken_at : Parts → (old new : View) → Option Frame → Bool
-woken_at d old new None = false
-woken_at d old new (Some f) = some_fires (watches_in (stmt_at d f)) Changed old new
+-- the running process waits until a moment
+abbrev pub waiting_for : ProcessId → Side → ℕ → Machine → Machine
+waiting_for p s t m =
+    record m { running = None; wheel = record m.wheel { events = m.wheel.events ++ record { time = t; region = front_of s; due = Resume p } ∷ [] } }
 
--- who is woken no longer waits
-abbrev pub waits_after : (Option Frame → Bool) → List (Option Frame) → List (Option Frame)
-waits_after g [] = []
-waits_after g (w ∷ ws) = (if g w then None else w) ∷ waits_after g ws
+-- the moment that was asked for is past the end of time
+abbrev pub too_late : Place → Machine → Machine
+too_late at m = record m { fault = Some (record { kind = Time; at = at; time = m.time }) }
 
--- and stands ready on its side, by number
-abbrev pub ready_after : (Option Frame → Bool) → ℕ → List (Option Frame) → List Side → Regions → Regions
-ready_after g n [] ss r = r
-ready_after g n (w ∷ ws) [] r = r
-ready_after g n (w ∷ ws) (s ∷ ss) r = ready_after g (n + 1) ws ss (if g w then ready_in (front_of s) (record { 0 = n }) r else r)
+-- a process waits for so many ticks, or for its turn in the slot, or the end of time is met
+abbrev pub Slept : Machine → Machine → ProcessId → Side → Place → ℕ → Type 0
+Slept m n p s at zero = n ≡ turned_in p s m
+Slept m n p s at (suc k) = n ≡ (if nat_lt (m.time + suc k) (2 ^ 63) then waiting_for p s (m.time + suc k) m else too_late at m)
 
--- the weight of those that wait, from a number on
-abbrev pub waits_weight : (ProcessId → ℕ) → ℕ → List (Option Frame) → ℕ
-waits_weight w n [] = 0
-waits_weight w n (x ∷ xs) = (if is_some x then w (record { 0 = n }) else 0) + waits_weight w (n + 1) xs
-
--- the sides of the processes of a design
-abbrev pub sides : Parts → List Side
-sides d = map side_of_process d.processes
-
--- ---- the first so many of them
-
--- the waits where the first so many were tried
-abbrev pub waits_until : (Option Frame → Bool) → ℕ → List (Option Frame) → List (Option Frame)
-waits_until g zero ws = ws
-waits_until g (suc i) [] = []
-waits_until g (suc i) (w ∷ ws) = (if g w then None else w) ∷ waits_until g i ws
-
--- the regions then
-abbrev pub ready_until : (Option Frame → Bool) → ℕ → (n : ℕ) → List (Option Frame) → List Side → Regions → Regions
-ready_until g zero n ws ss r = r
-ready_until g (suc i) n [] ss r = r
-ready_until g (suc i) n (w ∷ ws) [] r = r
-ready_until g (suc i) n (w ∷ ws) (s ∷ ss) r = ready_until g i (n + 1) ws ss (if g w then ready_in (front_of s) (record { 0 = n }) r else r)
-
--- the weight of those that are still to be tried
-abbrev pub weight_from : (ProcessId → ℕ) → ℕ → (n : ℕ) → List (Option Frame) → ℕ
-weight_from w zero n ws = waits_weight w n ws
-weight_from w (suc i) n [] = 0
-weight_from w (suc i) n (x ∷ ws) = weight_from w i (n + 1) ws
-
--- the process with a number was tried
-pub record TriedOne (d : Parts) (vs : List Vector) (h : Option Change) (n : ℕ) (s : Side) (ws : List (Option Frame)) (r : Regions) (us : List (Option Frame)) (t : Regions) : Type 0 where
-  pub woken : Bool
-  pub some : woken ≡ true → is_some (slice_index_or ws n None) ≡ true
-  pub is : (old new : View) → Sees old vs None → Sees new vs h → woken ≡ woken_at d old new (slice_index_or ws n None)
-  pub waits : us ≡ (if woken then slice_set ws n None else ws)
-  pub regions : t ≡ (if woken then ready_in (front_of s) (record { 0 = n }) r else r)
-
--- the first so many processes were tried
-pub record Tried (d : Parts) (vs : List Vector) (h : Option Change) (ws : List (Option Frame)) (r : Regions) (i : ℕ) (us : List (Option Frame)) (t : Regions) : Type 0 where
-  pub count : length us ≡ length ws
-  pub later : (j : ℕ) → i ≤ j → slice_get us j ≡ slice_get ws j
-  pub weights : (w : ProcessId → ℕ) → sum_by w (standing t) + weight_from w i 0 ws ≤ weight_of_all w d
-  pub waits : (old new : View) → Sees old vs None → Sees new vs h → us ≡ waits_until (woken_at d old new) i ws
-  pub regions : (old new : View) → Sees old vs None → Sees new vs h → t ≡ ready_until (woken_at d old new) i 0 ws (sides d) r
+-- a number of ticks, as far as a word holds it
+abbrev pub IsTicks : Option ℕ → ℕ → Type 0
+IsTicks (Some t) n = t ≡ n
+IsTicks None n = 2 ^ 64 ≤ n

@@ -7,13 +7,15 @@ ghost use Rattle.sv_value.specs.declared.val.Val.TheVariants as val;
 ghost use Rattle.sv_flat.specs.Built.{IsBuilt, IsBuiltEdge, IsBuiltWatch};
 ghost use Rattle.sv_flat.specs.State.{View};
 ghost use Rattle.sv_flat.specs.Woken.{Changed, makes, rises, falls, watch_fires, some_fires};
-ghost use Rattle.sv_kernel.specs.Values.{Sees};
-ghost use Rattle.sv_kernel.specs.Waits.{watches_of, watches_in, stmt_at, woken_at, waits_after, ready_after, waits_weight, sides, TriedOne};
+ghost use Rattle.sv_kernel.specs.Expressions.{Sees};
+ghost use Rattle.sv_kernel.specs.Waits.{watches_of, watches_in};
+ghost use Rattle.sv_kernel.specs.Frames.{stmt_at};
+ghost use Rattle.sv_kernel.specs.Wakes.{woken_at, waits_after, ready_after, waits_weight, sides, TriedOne};
+ghost use Rattle.sv_kernel.specs.Machine.{EachInOnePlace};
 
-use crate::eval::value;
+use crate::expressions::{Change, value};
 use crate::frames::Frame;
 use crate::sides::front_region;
-use crate::values::Change;
 use sv_flat::{Design, Edge, Form, Watch};
 use sv_sched::Regions;
 use sv_value::{Bits, NoMemory, ProcessId, Side, Sym};
@@ -154,7 +156,7 @@ pub fn wake_all(
     requires built { IsBuilt design.now }
     requires each { length values.now ≡ length design.now.objects }
     requires count { length waits.old.items ≡ length design.now.processes }
-    requires weights { (w : ProcessId → ℕ) → sum_by w (standing regions.old) + waits_weight w 0 waits.old.items ≤ weight_of_all w design.now }
+    requires weights { EachInOnePlace design.now regions.old waits.old.items }
     ensures waits { OnOk result ((old new : View) → Sees old values.now None → Sees new values.now change.now
         → waits.new.items ≡ waits_after (woken_at design.now old new) waits.old.items) }
     ensures regions { OnOk result ((old new : View) → Sees old values.now None → Sees new values.now change.now

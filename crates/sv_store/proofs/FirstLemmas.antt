@@ -5,10 +5,10 @@ use Rattle.sv_value.specs.declared.val.Plain.TheVariants as plain
 use Rattle.sv_flat.specs.declared.object.DataType.{DataType}
 use Rattle.sv_flat.specs.declared.object.DataType.TheVariants as type
 use Rattle.sv_flat.specs.declared.object.Object.{Object}
-use Rattle.sv_flat.specs.State.{World, Stored}
+use Rattle.sv_flat.specs.State.{World, Stored, first_value}
 use Rattle.sv_flat.specs.Effects.Creation.{fresh_value}
 use Rattle.sv_flat.specs.Opening.{stored, with_first, objects_added}
-use Rattle.sv_store.specs.First.{first_value, first_store}
+use Rattle.sv_store.specs.First.{first_store}
 
 -- a type whose first value is not on the heap
 abbrev pub NeedsNoHeap : DataType → Type 0

@@ -1,14 +1,12 @@
 // The first values of variables.
-ghost use Rattle.std.specs.Prelude.{◌≡◌, ◌<◌, ◌≤◌, ◌^◌, IfOk, replicate};
-ghost use Rattle.sv_value.specs.declared.word.TheConstants.{WIDEST};
-ghost use Rattle.sv_value.specs.Vector.{vector};
-ghost use Rattle.sv_flat.specs.State.{unknown_symbol};
+ghost use Rattle.std.specs.Prelude.{◌≡◌, ◌<◌, ◌^◌, IfOk, replicate};
 ghost use Rattle.sv_flat.specs.Opening.{elements_of};
-ghost use Rattle.sv_store.specs.First.{first_value, HasWidth};
+ghost use Rattle.sv_flat.specs.State.{first_value};
+ghost use Rattle.sv_store.specs.First.{HasWidth};
 
 use std::alloc::Global;
-use sv_flat::{Bounds, DataType};
-use sv_value::{Bits, Integral, Key, NoMemory, Plain, Text, Val, Word};
+use sv_flat::{Bounds, DataType, first_bits};
+use sv_value::{Key, NoMemory, Plain, Text, Val};
 
 /// How many elements a variable has: those of its fixed array, or one.
 pub fn element_count(array: Option<Bounds>) -> u32
@@ -19,18 +17,6 @@ pub fn element_count(array: Option<Bounds>) -> u32
         None => 1,
         Some(bounds) => (bounds.left.abs_diff(bounds.right) + 1) as u32,
     }
-}
-
-/// x in each bit of a four-state type, 0 in each of a two-state one.
-fn first_bits(ty: Integral) -> Bits
-    requires at_least_one { 1 ≤ ty.width }
-    requires fits { ty.width ≤ WIDEST }
-    ensures { result ≡ vector ty.signed (replicate ty.width (unknown_symbol ty.four_state)) }
-{
-    if ty.four_state {
-        return Bits::truncated(ty.width, ty.signed, 0, Word::MAX);
-    }
-    Bits::truncated(ty.width, ty.signed, 0, 0)
 }
 
 /// The first value of a variable (IEEE 1800-2017, 6.8).

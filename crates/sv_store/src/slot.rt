@@ -5,12 +5,13 @@ ghost use Rattle.sv_value.specs.declared.val.Val.TheVariants.{Bits as bits};
 ghost use Rattle.sv_value.specs.declared.word.Sym.TheVariants.{Z};
 ghost use Rattle.sv_value.specs.declared.word.TheConstants.{WIDEST};
 ghost use Rattle.sv_value.specs.Vector.{vector};
-ghost use Rattle.sv_flat.specs.State.{element_of, net_value, no_value};
+ghost use Rattle.sv_flat.specs.State.{element_of, first_value, net_value, no_value};
 ghost use Rattle.sv_flat.specs.State.{Net as Net_held};
 ghost use Rattle.sv_flat.specs.Opening.{stored};
 ghost use Rattle.sv_flat.specs.Effects.Writes.{changed_at, stored_over, value_over, vector_over};
 ghost use Rattle.sv_flat.specs.Eval.{type_width};
-ghost use Rattle.sv_store.specs.First.{first_value, IsStorable, IsWidth};
+ghost use Rattle.sv_flat.specs.Built.{IsWidth};
+ghost use Rattle.sv_store.specs.First.{IsStorable};
 ghost use Rattle.sv_store.specs.Objects.{IsBits, IsWide, HasElement, HasDriver};
 
 use crate::first::{element_count, first_elements};

@@ -1,7 +1,7 @@
 use Rattle.std.proofs.Common.{◌≡◌, None, drop}
 use Rattle.sv_flat.specs.State.{View}
 use Rattle.sv_flat.specs.Woken.{Changed, some_fires}
-use Rattle.sv_kernel.specs.Values.{Sees}
+use Rattle.sv_kernel.specs.Expressions.{Sees}
 use Rattle.sv_kernel.proofs.wakes.some_fires.Given as goal
 
 -- the rest decides

@@ -1,4 +1,4 @@
-use Rattle.sv_kernel.specs.Waits.{Tried}
+use Rattle.sv_kernel.specs.Wakes.{Tried}
 use Rattle.sv_kernel.proofs.wakes.wake_all.Given as goal
 
 -- the first so many are tried
