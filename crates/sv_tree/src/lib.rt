@@ -24,10 +24,10 @@ pub use token::{MOST_TOKENS, Piece, Refused, Timescale, Token};
 pub use types::{EnumItem, ImpliedType, Range, WrittenType};
 pub use unit::{
     Argument, AssignItem, Class, ClassItem, ClockingBlock, ClockingItem, Connection, Description,
-    Element, Head, Instance, Instances, Item, Method, NetDecl, NetItem, Param, ParamItem, Port,
+    DesignElement, Head, Instance, Instances, Item, Method, NetDecl, NetItem, Param, ParamItem, Port,
     Procedure, Property, PureMethod, Qualifiers, Returns, Routine, Sided, Skew, Typedef,
 };
 pub use word::{
     AtomWord, BinaryWord, CaseWord, Direction, EdgeWord, JoinWord, Life, Name, ParamWord, PartWord,
-    PortDirection, ProcedureWord, Sign, StepWord, UnaryWord, VectorWord,
+    PortDirection, Precedence, ProcedureWord, Sign, StepWord, UnaryWord, VectorWord,
 };

@@ -287,7 +287,7 @@ pub enum Item {
 /// `[life] id [pports] [ports] ";" {item} end [":" id]`,
 /// where `pports = "#" "(" list(["parameter"] [itype] id "=" expr) ")"` and `ports = "(" [list(port)] ")"`.
 #[derive(Drop)]
-pub struct Element {
+pub struct DesignElement {
     pub at: Place,
     pub life: Life,
     pub name: Name,
@@ -303,9 +303,9 @@ pub struct Element {
 #[derive(Drop)]
 pub enum Description {
     /// `module = "module" [life] id [pports] [ports] ";" {mitem} "endmodule" [":" id]`
-    Module(Box<Element>),
+    Module(Box<DesignElement>),
     /// `program = "program" [life] id [pports] [ports] ";" {pitem} "endprogram" [":" id]`
-    Program(Box<Element>),
+    Program(Box<DesignElement>),
     /// What stands outside modules and programs: `class | typedef | param ";" | routine | ";"`
     Item(Item),
 }

@@ -53,6 +53,33 @@ pub enum BinaryWord {
     LogicalOr,
 }
 
+/// How strongly the operators between two operands bind (Table 11-2), the strongest first.
+#[derive(Clone, Copy, Debug, PartialEq, Eq)]
+pub enum Precedence {
+    /// `**`
+    Power,
+    /// `* / %`
+    Multiplicative,
+    /// `+ -`
+    Additive,
+    /// `<< >> <<< >>>`
+    Shift,
+    /// `< <= > >=`
+    Relational,
+    /// `== != === !==`
+    Equality,
+    /// `&`
+    And,
+    /// `^ ~^ ^~`
+    Xor,
+    /// `|`
+    Or,
+    /// `&&`
+    LogicalAnd,
+    /// `||`
+    LogicalOr,
+}
+
 /// `++` or `--` (11.4.2)
 #[derive(Clone, Copy, Debug, PartialEq, Eq)]
 pub enum StepWord {
