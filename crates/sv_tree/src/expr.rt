@@ -117,7 +117,7 @@ pub enum Suffix {
     /// `"." id`
     Member(Name),
     /// `actuals = "(" [list(expr)] ")"`, at `(`
-    Actuals(Place, Vec<Expr>),
+    Call(Place, Vec<Expr>),
     /// `sel = "[" expr "]"`, at `[`
     Select(Place, Box<Expr>),
     /// `sel = "[" expr (":" | "+:" | "-:") expr "]"`

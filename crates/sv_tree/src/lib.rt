@@ -24,10 +24,13 @@ pub use token::{MOST_TOKENS, Piece, Refused, Timescale, Token};
 pub use types::{EnumItem, ImpliedType, Range, WrittenType};
 pub use unit::{
     Argument, AssignItem, Class, ClassItem, ClockingBlock, ClockingItem, Connection, Description,
-    DesignElement, Head, Instance, Instances, Item, Method, NetDecl, NetItem, Param, ParamItem, Port,
-    Procedure, Property, PureMethod, Qualifiers, Returns, Routine, Sided, Skew, Typedef,
+    DesignElement, Head, Instance, Instances, Item, Method, NetDecl, NetItem, Param, ParamItem,
+    Port, Procedure, Property, PureMethod, Qualifiers, Returns, Routine, Sided, Skew, Typedef,
 };
 pub use word::{
     AtomWord, BinaryWord, CaseWord, Direction, EdgeWord, JoinWord, Life, Name, ParamWord, PartWord,
     PortDirection, Precedence, ProcedureWord, Sign, StepWord, UnaryWord, VectorWord,
 };
+
+/// The greatest depth of a tree: how many statements, operators and pairs of brackets may stand inside one another.
+pub const MOST_DEPTH: u32 = 200;
