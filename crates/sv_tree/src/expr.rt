@@ -11,7 +11,7 @@ pub enum Root {
     Super(Place, Name),
     /// `id`
     Plain(Name),
-    /// `id "::" id`
+    /// `id "::" id`: the scope, and the name in it
     Scoped(Name, Name),
 }
 
@@ -54,22 +54,60 @@ pub enum Expr {
     Group(Place, Box<Expr>),
     /// `post`: a root and `{"." id | actuals | sel}`
     Post(Root, Vec<Suffix>),
-    /// `sysname ["(" [list(expr)] ")"]`; the flag tells whether brackets are written
-    System(Name, bool, Vec<Expr>),
-    /// `"super" "." "new" [actuals]`, at `super` and at `new`; the flag tells whether brackets are written
-    SuperNew(Place, Place, bool, Vec<Expr>),
+    /// `sysname ["(" [list(expr)] ")"]`
+    System(Name, Actuals),
+    /// `"super" "." "new" [actuals]`
+    SuperNew {
+        /// The place of `super`.
+        at: Place,
+        /// The place of `new`.
+        new: Place,
+        actuals: Actuals,
+    },
     /// `"{" list(expr) "}"`, at `{`
     Join(Place, Vec<Expr>),
-    /// `"{" expr "{" list(expr) "}" "}"`, at the first and the second `{`
-    Repeat(Place, Box<Expr>, Place, Vec<Expr>),
+    /// `"{" expr "{" list(expr) "}" "}"`
+    Repeat {
+        /// The place of the first `{`.
+        at: Place,
+        count: Box<Expr>,
+        /// The place of the second `{`.
+        inner: Place,
+        items: Vec<Expr>,
+    },
     /// `(basetype | id | number) "'" "(" expr ")"`
     Cast(CastType, Box<Expr>),
-    /// `uop expr`, at the operator
-    Unary(Place, UnaryWord, Box<Expr>),
-    /// `expr bop expr`, at the operator
-    Binary(BinaryWord, Place, Box<Expr>, Box<Expr>),
+    /// `uop expr`
+    Unary {
+        /// The place of the operator.
+        at: Place,
+        word: UnaryWord,
+        operand: Box<Expr>,
+    },
+    /// `expr bop expr`
+    Binary {
+        word: BinaryWord,
+        /// The place of the operator.
+        at: Place,
+        left: Box<Expr>,
+        right: Box<Expr>,
+    },
     /// `expr "?" expr ":" expr`
-    Choose(Box<Expr>, Box<Expr>, Box<Expr>),
+    Choose {
+        condition: Box<Expr>,
+        yes: Box<Expr>,
+        no: Box<Expr>,
+    },
+}
+
+/// Arguments that may be left out with their brackets: `["(" [list(expr)] ")"]` (A.8.2).
+#[derive(Drop)]
+#[cycle(expr)]
+pub enum Actuals {
+    /// No brackets are written.
+    Unwritten,
+    /// Brackets with these in them.
+    Written(Vec<Expr>),
 }
 
 /// What follows the root of a name: `"." id | actuals | sel` (A.8.4).
@@ -79,11 +117,17 @@ pub enum Suffix {
     /// `"." id`
     Member(Name),
     /// `actuals = "(" [list(expr)] ")"`, at `(`
-    Actuals(Place, Vec<Expr>),
+    Call(Place, Vec<Expr>),
     /// `sel = "[" expr "]"`, at `[`
     Select(Place, Box<Expr>),
-    /// `sel = "[" expr (":" | "+:" | "-:") expr "]"`, at `[`
-    Part(Place, PartWord, Box<Expr>, Box<Expr>),
+    /// `sel = "[" expr (":" | "+:" | "-:") expr "]"`
+    Part {
+        /// The place of `[`.
+        at: Place,
+        word: PartWord,
+        left: Box<Expr>,
+        right: Box<Expr>,
+    },
 }
 
 /// A target: `lval = post | "{" list(lval) "}"` (A.8.5).

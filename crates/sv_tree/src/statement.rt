@@ -1,12 +1,15 @@
 // Statements and declarations (IEEE 1800-2017, A.2.4 to A.2.8 and A.6).
 use crate::{
-    BinaryWord, CaseWord, EdgeWord, Expr, JoinWord, Life, Lval, Name, Range, StepWord, Type,
+    Actuals, BinaryWord, CaseWord, EdgeWord, Expr, JoinWord, Life, Lval, Name, Range, StepWord,
+    WrittenType,
 };
 use sv_value::Place;
 
+// ---- declarations
+
 /// `dim = "[" [expr | expr ":" expr | "$" | type] "]"`, at `[` (A.2.5).
 #[derive(Drop)]
-pub enum Dim {
+pub enum Dimension {
     /// `"[" "]"`
     Empty(Place),
     /// `"[" expr "]"`
@@ -16,18 +19,9 @@ pub enum Dim {
     /// `"[" "$" "]"`
     Queue(Place),
     /// `"[" type "]"`, of a type that is no name
-    Key(Place, Type),
+    Key(Place, WrittenType),
     /// `"[" id "]"`: a name alone, of a type or of a constant
     Named(Place, Name),
-}
-
-/// The arguments of a `new`: `["(" [list(expr)] ")"]`.
-#[derive(Drop)]
-pub enum Actuals {
-    /// No brackets are written.
-    None,
-    /// Brackets with these in them.
-    Written(Vec<Expr>),
 }
 
 /// `init`: the value of a declaration or of an assignment (A.2.4); `new` is at its word.
@@ -40,14 +34,18 @@ pub enum Init {
     /// `"new" id`
     Copy(Place, Name),
     /// `"new" "[" expr "]" ["(" expr ")"]`
-    Array(Place, Expr, Option<Expr>),
+    Array {
+        at: Place,
+        size: Expr,
+        source: Option<Expr>,
+    },
 }
 
 /// `id [dim] ["=" init]`
 #[derive(Drop)]
 pub struct Declarator {
     pub name: Name,
-    pub dim: Option<Dim>,
+    pub dimension: Option<Dimension>,
     pub init: Option<Init>,
 }
 
@@ -55,9 +53,11 @@ pub struct Declarator {
 #[derive(Drop)]
 pub struct Decl {
     pub life: Life,
-    pub ty: Type,
+    pub of: WrittenType,
     pub names: Vec<Declarator>,
 }
+
+// ---- parts of statements
 
 /// `delay = "#" (number | time | id | "(" expr ")")`, at `#` (A.2.2.3)
 #[derive(Drop)]
@@ -85,25 +85,60 @@ pub enum Event {
     Parts(Vec<EventPart>),
 }
 
-/// The first part of a `for` (A.6.8)
+/// A blocking assignment: `lval "=" [delay] init` (A.6.2)
 #[derive(Drop)]
-pub enum First {
+pub struct BlockingAssignment {
+    pub target: Lval,
+    pub delay: Option<Delay>,
+    pub value: Init,
+}
+
+/// A nonblocking assignment: `lval "<=" [delay] expr` (A.6.2)
+#[derive(Drop)]
+pub struct NonblockingAssignment {
+    pub target: Lval,
+    pub delay: Option<Delay>,
+    pub value: Expr,
+}
+
+/// An assignment with an operator: `lval aop expr` (A.6.2)
+#[derive(Drop)]
+pub struct OperatorAssignment {
+    pub target: Lval,
+    pub word: BinaryWord,
+    pub value: Expr,
+}
+
+/// The first part of a `for`: `type id "=" expr | lval "=" expr` (A.6.8)
+#[derive(Drop)]
+pub enum ForInit {
     /// `type id "=" expr`
-    Declare(Type, Name, Expr),
+    Declare {
+        of: WrittenType,
+        name: Name,
+        value: Expr,
+    },
     /// `lval "=" expr`
     Assign(Lval, Expr),
 }
 
-/// `step`: the last part of a `for` (A.6.8)
+/// The last part of a `for`: `step` (A.6.8)
 #[derive(Drop)]
-pub enum Last {
+pub enum ForStep {
     /// `lval "=" expr`
     Assign(Lval, Expr),
     /// `lval aop expr`
-    Op(Lval, BinaryWord, Expr),
-    /// `lval ("++" | "--") | ("++" | "--") lval`, at its first token
-    Step(Place, Lval, StepWord),
+    Operator(OperatorAssignment),
+    /// `lval ("++" | "--") | ("++" | "--") lval`
+    Step {
+        /// The place of the first token.
+        at: Place,
+        target: Lval,
+        word: StepWord,
+    },
 }
+
+// ---- statements
 
 /// `stmt = [id ":"] body` (A.6.4), at the first token of its body; the label has its own place
 #[derive(Drop)]
@@ -117,7 +152,7 @@ pub struct Stmt {
 /// An item of a `case` (A.6.7)
 #[derive(Drop)]
 #[cycle(stmt)]
-pub enum Arm {
+pub enum CaseItem {
     /// `list(expr) ":" stmt`
     Labels(Vec<Expr>, Box<Stmt>),
     /// `"default" [":"] stmt`
@@ -131,15 +166,28 @@ pub enum Body {
     /// `";"`
     Null,
     /// `"begin" [":" id] {decl} {stmt} "end" [":" id]`
-    Block(Option<Name>, Vec<Decl>, Vec<Stmt>, Option<Name>),
+    Block {
+        name: Option<Name>,
+        decls: Vec<Decl>,
+        stmts: Vec<Stmt>,
+        /// The name after `end`.
+        label: Option<Name>,
+    },
     /// `"fork" [":" id] {decl} {stmt} ("join" | "join_any" | "join_none") [":" id]`
-    Fork(Option<Name>, Vec<Decl>, Vec<Stmt>, JoinWord, Option<Name>),
+    Fork {
+        name: Option<Name>,
+        decls: Vec<Decl>,
+        stmts: Vec<Stmt>,
+        join: JoinWord,
+        /// The name after the last word.
+        label: Option<Name>,
+    },
     /// `lval "=" [delay] init ";"`
-    Assign(Lval, Option<Delay>, Init),
+    Blocking(Box<BlockingAssignment>),
     /// `lval "<=" [delay] expr ";"`
-    Later(Lval, Option<Delay>, Expr),
+    Nonblocking(Box<NonblockingAssignment>),
     /// `lval aop expr ";"`
-    Op(Lval, BinaryWord, Expr),
+    Operator(Box<OperatorAssignment>),
     /// `lval ("++" | "--") ";" | ("++" | "--") lval ";"`
     Step(Lval, StepWord),
     /// `call ";"`
@@ -149,11 +197,24 @@ pub enum Body {
     /// `"if" "(" expr ")" stmt`, without an `else`
     If(Expr, Box<Stmt>),
     /// `"if" "(" expr ")" stmt "else" stmt`
-    IfElse(Expr, Box<Stmt>, Box<Stmt>),
+    IfElse {
+        condition: Expr,
+        yes: Box<Stmt>,
+        no: Box<Stmt>,
+    },
     /// `("case" | "casez" | "casex") "(" expr ")" {list(expr) ":" stmt | "default" [":"] stmt} "endcase"`
-    Case(CaseWord, Expr, Vec<Arm>),
+    Case {
+        word: CaseWord,
+        subject: Expr,
+        items: Vec<CaseItem>,
+    },
     /// `"for" "(" (type id "=" expr | lval "=" expr) ";" expr ";" step ")" stmt`
-    For(First, Expr, Last, Box<Stmt>),
+    For {
+        init: Box<ForInit>,
+        condition: Expr,
+        step: Box<ForStep>,
+        body: Box<Stmt>,
+    },
     /// `"while" "(" expr ")" stmt`
     While(Expr, Box<Stmt>),
     /// `"do" stmt "while" "(" expr ")" ";"`
@@ -162,16 +223,30 @@ pub enum Body {
     Repeat(Expr, Box<Stmt>),
     /// `"forever" stmt`
     Forever(Box<Stmt>),
-    /// `"foreach" "(" id "[" id "]" ")" stmt`: the array and the index
-    Foreach(Name, Name, Box<Stmt>),
+    /// `"foreach" "(" id "[" id "]" ")" stmt`
+    Foreach {
+        array: Name,
+        index: Name,
+        body: Box<Stmt>,
+    },
     /// `delay stmt`
     After(Delay, Box<Stmt>),
     /// `"@" event stmt`
-    At(Event, Box<Stmt>),
-    /// `"##" (number | id | "(" expr ")") stmt`, at `##`
-    Cycles(Place, Expr, Box<Stmt>),
-    /// `"wait" "(" expr ")" stmt`, at `wait`
-    Wait(Place, Expr, Box<Stmt>),
+    On(Event, Box<Stmt>),
+    /// `"##" (number | id | "(" expr ")") stmt`
+    Cycles {
+        /// The place of `##`.
+        at: Place,
+        amount: Expr,
+        body: Box<Stmt>,
+    },
+    /// `"wait" "(" expr ")" stmt`
+    Wait {
+        /// The place of `wait`.
+        at: Place,
+        condition: Expr,
+        body: Box<Stmt>,
+    },
     /// `"wait" "fork" ";"`
     WaitFork,
     /// `"disable" "fork" ";"`

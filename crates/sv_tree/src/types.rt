@@ -17,13 +17,22 @@ pub struct EnumItem {
     pub value: Option<Expr>,
 }
 
-/// `type`; each but a name is at its word.
+/// A type as it is written; each but a name is at its word.
 #[derive(Drop)]
-pub enum Type {
+pub enum WrittenType {
     /// `("bit" | "logic" | "reg") [sign] [range]`
-    Vector(Place, VectorWord, Sign, Option<Range>),
+    Vector {
+        at: Place,
+        word: VectorWord,
+        sign: Sign,
+        range: Option<Box<Range>>,
+    },
     /// `("byte" | "shortint" | "int" | "longint" | "integer" | "time") [sign]`
-    Atom(Place, AtomWord, Sign),
+    Atom {
+        at: Place,
+        word: AtomWord,
+        sign: Sign,
+    },
     /// `"string"`
     Text(Place),
     /// `"event"`
@@ -33,11 +42,30 @@ pub enum Type {
     /// `"mailbox"`
     Mailbox(Place),
     /// `"mailbox" "#" "(" type ")"`
-    MailboxOf(Place, Box<Type>),
+    MailboxOf(Place, Box<WrittenType>),
     /// `id`
     Named(Name),
     /// `"enum" "{" list(id ["=" expr]) "}"`
     Enum(Place, Vec<EnumItem>),
     /// `"enum" type "{" list(id ["=" expr]) "}"`
-    EnumOf(Place, Box<Type>, Vec<EnumItem>),
+    EnumOf {
+        at: Place,
+        base: Box<WrittenType>,
+        items: Vec<EnumItem>,
+    },
+}
+
+/// A type that may be left out: `[itype]`, where `itype = type | [sign] range | sign` (A.2.2.1)
+#[derive(Drop)]
+pub enum ImpliedType {
+    /// Nothing is written.
+    Unwritten,
+    /// `[sign] range | sign`, at its first token
+    Vector {
+        at: Place,
+        sign: Sign,
+        range: Option<Box<Range>>,
+    },
+    /// `type`
+    Written(WrittenType),
 }

@@ -1,25 +1,17 @@
-// Units and their items (IEEE 1800-2017, A.1 to A.2 and A.6.11).
+// Descriptions: what a file consists of (IEEE 1800-2017, A.1 to A.2 and A.6.11).
 use crate::{
-    Decl, Direction, EdgeWord, Expr, Life, Lval, Name, Procedure, Range, Sign, Stmt, Type,
+    Decl, Direction, EdgeWord, Expr, ImpliedType, Life, Lval, Name, ParamWord, PortDirection,
+    ProcedureWord, Range, Sign, Stmt, WrittenType,
 };
 use sv_value::Place;
 
-/// `[itype]`, where `itype = type | [sign] range | sign` (A.2.2.1)
-#[derive(Drop)]
-pub enum ImpliedType {
-    /// Nothing is written.
-    None,
-    /// `[sign] range | sign`, at its first token
-    Vector(Place, Sign, Option<Range>),
-    /// `type`
-    Written(Type),
-}
+// ---- parameters, ports, connections
 
 /// `param = ("parameter" | "localparam") [itype] list(id "=" expr)` (A.2.1.1)
 #[derive(Drop)]
 pub struct Param {
-    pub is_local: bool,
-    pub ty: ImpliedType,
+    pub word: ParamWord,
+    pub of: ImpliedType,
     pub names: Vec<ParamItem>,
 }
 
@@ -33,9 +25,10 @@ pub struct ParamItem {
 /// `port = [("input" | "output") ["wire" | "tri"] [itype]] id` (A.1.3). The first of a list has a direction.
 #[derive(Drop)]
 pub struct Port {
-    pub direction: Option<Direction>,
+    pub direction: Option<PortDirection>,
+    /// Whether `wire` or `tri` is written.
     pub is_net: bool,
-    pub ty: ImpliedType,
+    pub of: ImpliedType,
     pub name: Name,
 }
 
@@ -46,8 +39,13 @@ pub enum Connection {
     Value(Expr),
     /// `"." id`, at the dot
     Named(Place, Name),
-    /// `"." id "(" [expr] ")"`, at the dot
-    Given(Place, Name, Option<Expr>),
+    /// `"." id "(" [expr] ")"`
+    Given {
+        /// The place of the dot.
+        at: Place,
+        name: Name,
+        value: Option<Expr>,
+    },
     /// `".*"`, at the sign
     All(Place),
 }
@@ -59,24 +57,35 @@ pub struct Instance {
     pub connections: Vec<Connection>,
 }
 
+// ---- subroutines and types
+
 /// An argument of a subroutine: `[dir] [itype] id ["=" expr]` (A.2.7)
 #[derive(Drop)]
 pub struct Argument {
     pub direction: Option<Direction>,
-    pub ty: ImpliedType,
+    pub of: ImpliedType,
     pub name: Name,
     pub default: Option<Expr>,
 }
 
+/// What a subroutine is and gives: the words `function`, `task` and `void`, and the type of the result (A.2.6, A.2.7)
+#[derive(Drop)]
+pub enum Returns {
+    /// A task.
+    Task,
+    /// A function with `void`.
+    Void,
+    /// A function with a type, or with none; a constructor has none.
+    Value(ImpliedType),
+}
+
 /// `head = "function" [life] ("new" | ["void" | itype] id) [args] | "task" [life] id [args]`, at its word (A.2.6, A.2.7).
-/// A constructor has the name `new`; a task is void.
+/// A constructor has the name `new`.
 #[derive(Drop)]
 pub struct Head {
     pub at: Place,
-    pub is_task: bool,
     pub life: Life,
-    pub is_void: bool,
-    pub ty: ImpliedType,
+    pub returns: Returns,
     pub name: Name,
     pub arguments: Vec<Argument>,
 }
@@ -86,9 +95,19 @@ pub struct Head {
 pub struct Routine {
     pub head: Head,
     pub decls: Vec<Decl>,
-    pub body: Vec<Stmt>,
+    pub stmts: Vec<Stmt>,
+    /// The name after the last word.
     pub label: Option<Name>,
 }
+
+/// `"typedef" type id ";"` (A.2.1.3)
+#[derive(Drop)]
+pub struct Typedef {
+    pub of: WrittenType,
+    pub name: Name,
+}
+
+// ---- classes
 
 /// The words before an item of a class: `{"local" | "protected" | "static" | "virtual"}` (A.1.9)
 #[derive(Clone, Copy, Debug, PartialEq, Eq)]
@@ -99,17 +118,38 @@ pub struct Qualifiers {
     pub is_virtual: bool,
 }
 
+/// `{qualifier} decl` (A.1.9)
+#[derive(Drop)]
+pub struct Property {
+    pub qualifiers: Qualifiers,
+    pub decl: Decl,
+}
+
+/// `{qualifier} routine` (A.1.9)
+#[derive(Drop)]
+pub struct Method {
+    pub qualifiers: Qualifiers,
+    pub routine: Routine,
+}
+
+/// `"pure" "virtual" head ";"`, at `pure` (A.1.9)
+#[derive(Drop)]
+pub struct PureMethod {
+    pub at: Place,
+    pub head: Head,
+}
+
 /// `citem`: an item of a class (A.1.9)
 #[derive(Drop)]
 pub enum ClassItem {
     /// `{qualifier} decl`
-    Property(Qualifiers, Decl),
+    Property(Box<Property>),
     /// `{qualifier} routine`
-    Method(Qualifiers, Routine),
-    /// `"pure" "virtual" head ";"`, at `pure`
-    Pure(Place, Head),
+    Method(Box<Method>),
+    /// `"pure" "virtual" head ";"`
+    Pure(Box<PureMethod>),
     /// `"typedef" type id ";"`
-    Typedef(Type, Name),
+    Typedef(Box<Typedef>),
     /// `"typedef" "class" id ";"`
     Announce(Name),
     /// `";"`
@@ -124,8 +164,11 @@ pub struct Class {
     pub name: Name,
     pub base: Option<Name>,
     pub items: Vec<ClassItem>,
+    /// The name after `endclass`.
     pub label: Option<Name>,
 }
+
+// ---- clocking blocks
 
 /// `skew`: when a clocking signal is sampled or driven, at `#` (A.6.11)
 #[derive(Drop)]
@@ -152,11 +195,36 @@ pub enum ClockingItem {
     Signals(Vec<Sided>, Vec<Name>),
 }
 
+/// `["default"] "clocking" id "@" "(" ["posedge" | "negedge"] id ")" ";" {citems} "endclocking" [":" id]` (A.6.11)
+#[derive(Drop)]
+pub struct ClockingBlock {
+    /// The place of `default`, where it is written.
+    pub default: Option<Place>,
+    pub name: Name,
+    pub edge: EdgeWord,
+    /// The object whose edge or change is the event.
+    pub event: Name,
+    pub items: Vec<ClockingItem>,
+    /// The name after `endclocking`.
+    pub label: Option<Name>,
+}
+
+// ---- items
+
 /// A net, and the expression that drives it: `id ["=" expr]` (A.2.4)
 #[derive(Drop)]
 pub struct NetItem {
     pub name: Name,
     pub value: Option<Expr>,
+}
+
+/// `net = ("wire" | "tri") ["logic"] [sign] [range] list(id ["=" expr]) ";"`, at its word (A.2.1.3)
+#[derive(Drop)]
+pub struct NetDecl {
+    pub at: Place,
+    pub sign: Sign,
+    pub range: Option<Range>,
+    pub names: Vec<NetItem>,
 }
 
 /// A continuous assignment: `lval "=" expr` (A.6.1)
@@ -166,58 +234,78 @@ pub struct AssignItem {
     pub value: Expr,
 }
 
-/// `mitem`, `pitem`, and what stands outside units (A.1.4, A.1.7)
+/// `inst = id ["#" "(" list(conn) ")"] list(id "(" [list(conn)] ")") ";"` (A.4.1.1)
+#[derive(Drop)]
+pub struct Instances {
+    /// The name of what is instantiated.
+    pub of: Name,
+    /// The values of its parameters.
+    pub params: Vec<Connection>,
+    pub list: Vec<Instance>,
+}
+
+/// `("initial" | "always" | "always_comb" | "always_ff") stmt`, at its word (A.6.2)
+#[derive(Drop)]
+pub struct Procedure {
+    pub at: Place,
+    pub word: ProcedureWord,
+    pub body: Stmt,
+}
+
+/// `mitem`, `pitem`, and what stands outside modules and programs (A.1.4, A.1.7)
 #[derive(Drop)]
 pub enum Item {
-    /// `net = ("wire" | "tri") ["logic"] [sign] [range] list(id ["=" expr]) ";"`, at its word
-    Net(Place, Sign, Option<Range>, Vec<NetItem>),
+    /// `net`
+    Net(Box<NetDecl>),
     /// `"assign" list(lval "=" expr) ";"`
     Assign(Vec<AssignItem>),
-    /// `inst = id ["#" "(" list(conn) ")"] list(id "(" [list(conn)] ")") ";"`: the unit, the values of its parameters, the instances
-    Instances(Name, Vec<Connection>, Vec<Instance>),
-    /// `("initial" | "always" | "always_comb" | "always_ff") stmt`, at its word
-    Procedure(Place, Procedure, Stmt),
+    /// `inst`
+    Instances(Box<Instances>),
+    /// `("initial" | "always" | "always_comb" | "always_ff") stmt`
+    Procedure(Box<Procedure>),
     /// `decl`
-    Decl(Decl),
+    Decl(Box<Decl>),
     /// `"typedef" type id ";"`
-    Typedef(Type, Name),
+    Typedef(Box<Typedef>),
     /// `"typedef" "class" id ";"`
     Announce(Name),
     /// `class`
-    Class(Class),
+    Class(Box<Class>),
     /// `param ";"`
-    Param(Param),
+    Param(Box<Param>),
     /// `routine`
-    Routine(Routine),
-    /// `["default"] "clocking" id "@" "(" ["posedge" | "negedge"] id ")" ";" {citems} "endclocking" [":" id]`: the place of
-    /// `default`, the block's name, its edge and event, its items and its label
-    Clocking(Option<Place>, Name, EdgeWord, Name, Vec<ClockingItem>, Option<Name>),
+    Routine(Box<Routine>),
+    /// `["default"] "clocking" id "@" .. "endclocking" [":" id]`
+    Clocking(Box<ClockingBlock>),
     /// `"default" "clocking" id ";"`, at `default`
     DefaultClocking(Place, Name),
     /// `";"`
     Null,
 }
 
-/// `module = "module" [life] id [pports] [ports] ";" {mitem} "endmodule" [":" id]`, and
-/// `program = "program" [life] id [pports] [ports] ";" {pitem} "endprogram" [":" id]`, at the word (A.1.2),
+/// A design element (3.2): from its word to its end (A.1.2),
+/// `[life] id [pports] [ports] ";" {item} end [":" id]`,
 /// where `pports = "#" "(" list(["parameter"] [itype] id "=" expr) ")"` and `ports = "(" [list(port)] ")"`.
 #[derive(Drop)]
-pub struct Program {
+pub struct DesignElement {
     pub at: Place,
-    pub is_program: bool,
     pub life: Life,
     pub name: Name,
+    /// The parameters, where brackets for them are written.
     pub params: Option<Vec<Param>>,
     pub ports: Vec<Port>,
     pub items: Vec<Item>,
+    /// The name after its last word.
     pub label: Option<Name>,
 }
 
 /// `unit = module | program | class | typedef | param ";" | routine | ";"` (A.1.2)
 #[derive(Drop)]
-pub enum Unit {
-    /// `module | program`
-    Module(Program),
-    /// What stands outside all modules and programs: `class | typedef | param ";" | routine | ";"`
+pub enum Description {
+    /// `module = "module" [life] id [pports] [ports] ";" {mitem} "endmodule" [":" id]`
+    Module(Box<DesignElement>),
+    /// `program = "program" [life] id [pports] [ports] ";" {pitem} "endprogram" [":" id]`
+    Program(Box<DesignElement>),
+    /// What stands outside modules and programs: `class | typedef | param ";" | routine | ";"`
     Item(Item),
 }
