@@ -1,7 +1,7 @@
 -- Loops that read any number of parts.
 use Rattle.std.proofs.Common.{◌≡◌, ℕ, suc, ◌<◌, true, false, List, [], ◌∷◌, ◌++◌, length, Ok, Err, refl, sym, ap, ◌∙◌, arith}
 use Rattle.sv_grammar.specs.Tokens.{Tok, next, mem}
-use Rattle.sv_grammar.specs.Language.{Miss, Deep, Odd, Out}
+use Rattle.sv_grammar.specs.Language.{Miss, TooDeep, Unexpected, Out}
 use Rattle.sv_grammar.specs.Code.{fine, info, least, reach}
 use Rattle.sv_grammar.specs.Code.Code.{Rep}
 use Rattle.sv_grammar.proofs.Answers.{no_true}
@@ -30,8 +30,8 @@ module _ {A : Type 0} (c : C A) (ks : List ℕ) (n : ℕ) (is : IsLoop c ks n) (
   pub loop_is : (ts : List Tok) → reads d (Rep c) ts ≡ from c d [] ts
   loop_is ts = list_is Production Value heads need table good c is.passes d ts
 
-  pub loop_stop : (front : List A) (ts : List Tok) → mem (next ts).code ks ≡ false → from c d front ts ≡ Ok (front, ts)
-  loop_stop front ts h = list_stop Production Value heads need table good c is.passes d front ts (rw is.begins h)
+  pub loop_stop : (prefix : List A) (ts : List Tok) → mem (next ts).code ks ≡ false → from c d prefix ts ≡ Ok (prefix, ts)
+  loop_stop prefix ts h = list_stop Production Value heads need table good c is.passes d prefix ts (rw is.begins h)
 
   has : (t : Tok) → mem t.code ks ≡ true → mem t.code (info Production Value heads need c).first ≡ true
   has t h = rw is.begins h
@@ -39,29 +39,29 @@ module _ {A : Type 0} (c : C A) (ks : List ℕ) (n : ℕ) (is : IsLoop c ks n) (
   none : mem 0 ks ≡ true → ⊥
   none h = no_true (mem 0 (info Production Value heads need c).first) (rw is.begins h) (rep_nil Production Value heads need table good c is.passes d)
 
-  pub loop_deep : (front : List A) (ts : List Tok) → mem (next ts).code ks ≡ true → reach n d ≡ false → from c d front ts ≡ Err (Deep ts)
-  loop_deep front [] h e = absurd (none h)
-  loop_deep front (t ∷ ts) h e = list_deep Production Value heads need table good c is.passes d front t ts (has t h) (rw is.needs e)
+  pub loop_deep : (prefix : List A) (ts : List Tok) → mem (next ts).code ks ≡ true → reach n d ≡ false → from c d prefix ts ≡ Err (TooDeep ts)
+  loop_deep prefix [] h e = absurd (none h)
+  loop_deep prefix (t ∷ ts) h e = list_deep Production Value heads need table good c is.passes d prefix t ts (has t h) (rw is.needs e)
 
-  pub loop_fail : (front : List A) (ts : List Tok) (m : Miss) → mem (next ts).code ks ≡ true → reach n d ≡ true → reads d c ts ≡ Err m → from c d front ts ≡ Err m
-  loop_fail front [] m h e q = absurd (none h)
-  loop_fail front (t ∷ ts) m h e q = list_fail Production Value heads need table good c is.passes d front t ts m (has t h) (rw is.needs e) q
+  pub loop_fail : (prefix : List A) (ts : List Tok) (m : Miss) → mem (next ts).code ks ≡ true → reach n d ≡ true → reads d c ts ≡ Err m → from c d prefix ts ≡ Err m
+  loop_fail prefix [] m h e q = absurd (none h)
+  loop_fail prefix (t ∷ ts) m h e q = list_fail Production Value heads need table good c is.passes d prefix t ts m (has t h) (rw is.needs e) q
 
-  pub loop_more : (front : List A) (ts : List Tok) (y : A × List Tok) → mem (next ts).code ks ≡ true → reach n d ≡ true → reads d c ts ≡ Ok y → from c d front ts ≡ from c d (front ++ y.0 ∷ []) y.1
-  loop_more front [] y h e q = absurd (none h)
-  loop_more front (t ∷ ts) y h e q = list_more Production Value heads need table good c is.passes d front t ts y (has t h) (rw is.needs e) q
+  pub loop_more : (prefix : List A) (ts : List Tok) (y : A × List Tok) → mem (next ts).code ks ≡ true → reach n d ≡ true → reads d c ts ≡ Ok y → from c d prefix ts ≡ from c d (prefix ++ y.0 ∷ []) y.1
+  loop_more prefix [] y h e q = absurd (none h)
+  loop_more prefix (t ∷ ts) y h e q = list_more Production Value heads need table good c is.passes d prefix t ts y (has t h) (rw is.needs e) q
 
   -- ---- for the loops of the code
 
   -- a part that can't be read
-  pub loop_ends : (e : ReadError) (front : List A) (ts : List Tok) (all : Out (List A)) → mem (next ts).code ks ≡ true → reach n d ≡ true → Fails e (reads d c ts) → from c d front ts ≡ all → Fails e all
-  loop_ends errors.Memory front ts all h r f told = tt
-  loop_ends (errors.TooDeep rest) front ts all h r f told = sym told ∙ loop_fail front ts (Deep (toks rest.now)) h r f
-  loop_ends (errors.Unexpected rest) front ts all h r f told = sym told ∙ loop_fail front ts (Odd (toks rest.now)) h r f
+  pub loop_ends : (e : ReadError) (prefix : List A) (ts : List Tok) (all : Out (List A)) → mem (next ts).code ks ≡ true → reach n d ≡ true → Fails e (reads d c ts) → from c d prefix ts ≡ all → Fails e all
+  loop_ends errors.Memory prefix ts all h r f told = tt
+  loop_ends (errors.TooDeep rest) prefix ts all h r f told = sym told ∙ loop_fail prefix ts (TooDeep (toks rest.now)) h r f
+  loop_ends (errors.Unexpected rest) prefix ts all h r f told = sym told ∙ loop_fail prefix ts (Unexpected (toks rest.now)) h r f
 
   -- a part that is read
-  pub loop_goes_on : (front front2 : List A) (ts : List Tok) (y : A × List Tok) (all : Out (List A)) → mem (next ts).code ks ≡ true → reach n d ≡ true → reads d c ts ≡ Ok y → front2 ≡ front ++ y.0 ∷ [] → from c d front ts ≡ all → from c d front2 y.1 ≡ all
-  loop_goes_on front front2 ts y all h r e after told = rw after (sym (loop_more front ts y h r e) ∙ told)
+  pub loop_goes_on : (prefix prefix2 : List A) (ts : List Tok) (y : A × List Tok) (all : Out (List A)) → mem (next ts).code ks ≡ true → reach n d ≡ true → reads d c ts ≡ Ok y → prefix2 ≡ prefix ++ y.0 ∷ [] → from c d prefix ts ≡ all → from c d prefix2 y.1 ≡ all
+  loop_goes_on prefix prefix2 ts y all h r e after told = rw after (sym (loop_more prefix ts y h r e) ∙ told)
 
   -- fewer tokens are left
   pub loop_shorter : (ts rest : List Token) (y : A × List Tok) → reach n d ≡ true → reads d c (toks ts) ≡ Ok y → y.1 ≡ toks rest → length rest < length ts

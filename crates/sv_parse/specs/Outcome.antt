@@ -1,7 +1,7 @@
 -- What a reader answers, and what reading gives.
 use Rattle.std.specs.Prelude.{◌≡◌, ℕ, false, true, List, Option, Some, None, Result, Ok, Err}
 use Rattle.sv_grammar.specs.Tokens.{Tok, mem}
-use Rattle.sv_grammar.specs.Language.{Out, Deep, Odd}
+use Rattle.sv_grammar.specs.Language.{Out, TooDeep, Unexpected}
 use Rattle.sv_tree.specs.Codes.{toks}
 use Rattle.sv_tree.specs.Forms.{Words, chosen, kinds_of}
 use Rattle.sv_parse.specs.declared.tokens.ReadError.{ReadError}
@@ -10,8 +10,8 @@ use Rattle.sv_parse.specs.declared.tokens.ReadError.TheVariants as errors
 -- the error is what reading gives, unless memory ran out
 abbrev pub Fails : {Y : Type 0} → ReadError → Out Y → Type 0
 Fails errors.Memory read = Unit {0}
-Fails (errors.TooDeep rest) read = read ≡ Err (Deep (toks rest.now))
-Fails (errors.Unexpected rest) read = read ≡ Err (Odd (toks rest.now))
+Fails (errors.TooDeep rest) read = read ≡ Err (TooDeep (toks rest.now))
+Fails (errors.Unexpected rest) read = read ≡ Err (Unexpected (toks rest.now))
 
 -- what a reader answers, seen by view, is what reading gives, unless memory ran out
 abbrev pub Gives : {X Y : Type 0} → (X → Y × List Tok) → Result X ReadError → Out Y → Type 0

@@ -25,9 +25,9 @@ IsListed c = disjoint (info Production Value heads need c).cont (code k.Comma �
 abbrev pub IsRepeated : {A : Type 0} → C A → Type 0
 IsRepeated c = disjoint (info Production Value heads need c).cont (info Production Value heads need c).first ≡ true
 
--- any number of parts, after those in front
+-- any number of parts, after those before
 abbrev pub from : {A : Type 0} → C A → ℕ → List A → List Tok → Out (List A)
-from c d front ts = list_from Production Value heads need table c d front ts
+from c d prefix ts = list_from Production Value heads need table c d prefix ts
 
 -- the next token, where it is there
 abbrev pub if_next : Bool → List Tok → Option Tok

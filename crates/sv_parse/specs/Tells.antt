@@ -1,7 +1,7 @@
 -- What a reader answers about the tokens from a place on (own).
 use Rattle.std.specs.Prelude.{◌≡◌, ℕ, ◌≤◌, List, length, drop, Result, Ok, Err}
 use Rattle.sv_grammar.specs.Tokens.{Tok, next}
-use Rattle.sv_grammar.specs.Language.{Lang, Reads, TooDeep, Unexpected}
+use Rattle.sv_grammar.specs.Language.{Lang, Reads, IsTooDeep, IsUnexpected}
 use Rattle.sv_tree.specs.Codes.{toks}
 use Rattle.sv_parse.specs.declared.tokens.ReadError.{ReadError}
 use Rattle.sv_parse.specs.declared.tokens.ReadError.TheVariants as errors
@@ -19,8 +19,8 @@ pub record ReadsTo {Y : Type 0} (l : ℕ → Lang Y) (d : ℕ) (ts : List Tok) (
 abbrev pub Tells : {X Y : Type 0} → (X → Y) → (ℕ → Lang Y) → ℕ → List Tok → ℕ → Result (X × ℕ) SyntaxFault → Type 0
 Tells view l d ts from (Ok x) = ReadsTo l d ts from (view x.0) x.1
 Tells view l d ts from (Err faults.Memory) = Unit {0}
-Tells view l d ts from (Err (faults.Bad at kinds.Depth)) = (rest : List Tok) × (at ≡ (next rest).at) × TooDeep l d (drop from ts) rest
-Tells view l d ts from (Err (faults.Bad at kinds.Unexpected)) = (rest : List Tok) × (at ≡ (next rest).at) × Unexpected l d (drop from ts) rest
+Tells view l d ts from (Err (faults.Bad at kinds.Depth)) = (rest : List Tok) × (at ≡ (next rest).at) × IsTooDeep l d (drop from ts) rest
+Tells view l d ts from (Err (faults.Bad at kinds.Unexpected)) = (rest : List Tok) × (at ≡ (next rest).at) × IsUnexpected l d (drop from ts) rest
 
 -- a fault names what stopped a reader
 abbrev pub Names : ReadError → SyntaxFault → Type 0
