@@ -7,7 +7,7 @@ ghost use Rattle.sv_tree.specs.Codes as codes;
 ghost use Rattle.sv_tree.specs.Forms as forms;
 ghost use Rattle.sv_tree.specs.Forms.{C};
 ghost use Rattle.sv_tree.specs.Grammar.{reads};
-ghost use Rattle.sv_parse.specs.Outcome.{Gives};
+ghost use Rattle.sv_parse.specs.Outcome.{Gives, Reads, seen};
 ghost use Rattle.sv_parse.specs.Parts.{IsKnown, IsListed, IsRepeated, from};
 
 use crate::budget::Budget;
@@ -38,7 +38,7 @@ pub trait Part {
 
     /// Reads one, and tells the tokens after it.
     fn read<'a>(alloc: Global, tokens: &'a [Token], budget: Budget) -> Read<'a, Self::Tree>
-        ensures { Gives (λ x. (view x.0, toks x.1.now)) result (reads budget production (toks tokens.now)) };
+        ensures { Reads view budget production tokens.now result };
 
     /// One token of look-ahead is enough for it.
     ghost is_known: { IsKnown production first };
@@ -70,7 +70,7 @@ pub fn maybe<'a, P: Part>(
     tokens: &'a [Token],
     budget: Budget,
 ) -> Read<'a, Option<P::Tree>>
-    ensures { Gives (λ x. (option_map P.view x.0, toks x.1.now)) result (reads budget (forms.optional P.production) (toks tokens.now)) }
+    ensures { Reads (option_map P.view) budget (forms.optional P.production) tokens.now result }
 {
     if !begins::<P>(tokens) {
         return Ok((None, tokens));
@@ -101,7 +101,7 @@ pub fn list_after<'a, P: Listed>(
 
 /// `"," part`, and the tokens after it.
 fn after_comma<'a, P: Part>(alloc: Global, tokens: &'a [Token], budget: Budget) -> Read<'a, P::Tree>
-    ensures { Gives (λ x. (P.view x.0, toks x.1.now)) result (reads budget (forms.comma P.production) (toks tokens.now)) }
+    ensures { Reads P.view budget (forms.comma P.production) tokens.now result }
 {
     let (_, rest) = expect(tokens, Kind::Comma)?;
     P::read(alloc, rest, budget)
@@ -113,7 +113,7 @@ pub fn list<'a, P: Listed>(
     tokens: &'a [Token],
     budget: Budget,
 ) -> Read<'a, Vec<P::Tree>>
-    ensures { Gives (λ x. (map P.view x.0.items, toks x.1.now)) result (reads budget (forms.list P.production) (toks tokens.now)) }
+    ensures { Reads (seen P.view) budget (forms.list P.production) tokens.now result }
 {
     let (first, rest) = P::read(alloc, tokens, budget)?;
     list_after::<P>(alloc, first, rest, budget)
@@ -125,7 +125,7 @@ pub fn list_or_none<'a, P: Listed>(
     tokens: &'a [Token],
     budget: Budget,
 ) -> Read<'a, Vec<P::Tree>>
-    ensures { Gives (λ x. (map P.view x.0.items, toks x.1.now)) result (reads budget (forms.list_or_none P.production) (toks tokens.now)) }
+    ensures { Reads (seen P.view) budget (forms.list_or_none P.production) tokens.now result }
 {
     if !begins::<P>(tokens) {
         return Ok((Vec::new(alloc), tokens));
@@ -139,7 +139,7 @@ pub fn items<'a, P: Repeated>(
     tokens: &'a [Token],
     budget: Budget,
 ) -> Read<'a, Vec<P::Tree>>
-    ensures { Gives (λ x. (map P.view x.0.items, toks x.1.now)) result (reads budget (Rep P.production) (toks tokens.now)) }
+    ensures { Reads (seen P.view) budget (Rep P.production) tokens.now result }
 {
     let mut list = Vec::new(alloc);
     let mut rest = tokens;

@@ -35,4 +35,4 @@ items-preserved g c =
 pub returns : goal.returns
 returns g c =
     let loop = repeated_loop g.P.Part.production g.P.Part.first g.met.P.Part.is_known g.met.P.Repeated.is_repeated in
-    sym c.items.invariant ∙ loop_stop g.P.Part.production g.P.Part.first 0 loop c.args.budget (map g.P.Part.view c.items.list.items) (toks c.items.rest.now) (search rules)
+    sym {b = reads c.args.budget (Rep g.P.Part.production) (toks c.args.tokens.now)} c.items.invariant ∙ loop_stop g.P.Part.production g.P.Part.first 0 loop c.args.budget (map g.P.Part.view c.items.list.items) (toks c.items.rest.now) (search rules)

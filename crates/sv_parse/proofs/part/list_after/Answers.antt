@@ -30,4 +30,4 @@ commas-preserved g c =
 pub returns : goal.returns
 returns g c =
     let loop = listed_loop g.P.Part.production g.P.Part.first g.met.P.Part.is_known g.met.P.Listed.is_listed in
-    sym c.commas.invariant ∙ loop_stop (comma g.P.Part.production) (code k.Comma ∷ []) 0 loop c.args.budget (map g.P.Part.view c.commas.list.items) (toks c.commas.rest.now) (search rules)
+    sym {b = from (comma g.P.Part.production) c.args.budget (g.P.Part.view c.args.first ∷ []) (toks c.args.tokens.now)} c.commas.invariant ∙ loop_stop (comma g.P.Part.production) (code k.Comma ∷ []) 0 loop c.args.budget (map g.P.Part.view c.commas.list.items) (toks c.commas.rest.now) (search rules)
