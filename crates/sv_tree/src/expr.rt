@@ -3,7 +3,6 @@ use crate::{AtomWord, BinaryWord, Name, PartWord, UnaryWord, VectorWord};
 use sv_value::{Place, Text};
 
 /// What a name with suffixes begins with: `"this" | "super" "." id | id ["::" id]` (A.8.4).
-#[derive(Drop)]
 pub enum Root {
     /// `"this"`, at the word
     This(Place),
@@ -15,8 +14,18 @@ pub enum Root {
     Scoped(Name, Name),
 }
 
+impl Drop for Root {
+    fn drop(self) {
+        match self {
+            Root::This(_) => {}
+            Root::Super(_, _) => {}
+            Root::Plain(_) => {}
+            Root::Scoped(_, _) => {}
+        }
+    }
+}
+
 /// What a cast converts to, before its `'`: `basetype | id | number` (A.8.4).
-#[derive(Drop)]
 pub enum CastType {
     /// `"bit" | "logic" | "reg"`, at the word
     Vector(Place, VectorWord),
@@ -36,8 +45,22 @@ pub enum CastType {
     Width(Place, Text),
 }
 
+impl Drop for CastType {
+    fn drop(self) {
+        match self {
+            CastType::Vector(_, _) => {}
+            CastType::Atom(_, _) => {}
+            CastType::Text(_) => {}
+            CastType::Event(_) => {}
+            CastType::Semaphore(_) => {}
+            CastType::Mailbox(_) => {}
+            CastType::Named(_) => {}
+            CastType::Width(_, _) => {}
+        }
+    }
+}
+
 /// An expression (A.8.3, A.8.4). Binary operators group to the left, `?:` to the right.
-#[derive(Drop)]
 #[cycle(expr)]
 pub enum Expr {
     /// `number`, at its first byte, as written
@@ -100,8 +123,52 @@ pub enum Expr {
     },
 }
 
+impl Drop for Expr {
+    #[cycle(drop_expr)]
+    fn drop(self) {
+        match self {
+            Expr::Number(_, _) => {}
+            Expr::Time(_, _) => {}
+            Expr::Text(_, _) => {}
+            Expr::Null(_) => {}
+            Expr::Dollar(_) => {}
+            Expr::Group(_, _) => {}
+            Expr::Post(_, _) => {}
+            Expr::System(_, _) => {}
+            Expr::SuperNew {
+                at: _,
+                new: _,
+                actuals: _,
+            } => {}
+            Expr::Join(_, _) => {}
+            Expr::Repeat {
+                at: _,
+                count: _,
+                inner: _,
+                items: _,
+            } => {}
+            Expr::Cast(_, _) => {}
+            Expr::Unary {
+                at: _,
+                word: _,
+                operand: _,
+            } => {}
+            Expr::Binary {
+                word: _,
+                at: _,
+                left: _,
+                right: _,
+            } => {}
+            Expr::Choose {
+                condition: _,
+                yes: _,
+                no: _,
+            } => {}
+        }
+    }
+}
+
 /// Arguments that may be left out with their brackets: `["(" [list(expr)] ")"]` (A.8.2).
-#[derive(Drop)]
 #[cycle(expr)]
 pub enum Actuals {
     /// No brackets are written.
@@ -110,8 +177,17 @@ pub enum Actuals {
     Written(Vec<Expr>),
 }
 
+impl Drop for Actuals {
+    #[cycle(drop_expr)]
+    fn drop(self) {
+        match self {
+            Actuals::Unwritten => {}
+            Actuals::Written(_) => {}
+        }
+    }
+}
+
 /// What follows the root of a name: `"." id | actuals | sel` (A.8.4).
-#[derive(Drop)]
 #[cycle(expr)]
 pub enum Suffix {
     /// `"." id`
@@ -130,11 +206,36 @@ pub enum Suffix {
     },
 }
 
+impl Drop for Suffix {
+    #[cycle(drop_expr)]
+    fn drop(self) {
+        match self {
+            Suffix::Member(_) => {}
+            Suffix::Call(_, _) => {}
+            Suffix::Select(_, _) => {}
+            Suffix::Part {
+                at: _,
+                word: _,
+                left: _,
+                right: _,
+            } => {}
+        }
+    }
+}
+
 /// A target: `lval = post | "{" list(lval) "}"` (A.8.5).
-#[derive(Drop)]
 pub enum Lval {
     /// `post`: a root and `{"." id | actuals | sel}`
     Post(Root, Vec<Suffix>),
     /// `"{" list(lval) "}"`, at `{`
     Join(Place, Vec<Lval>),
+}
+
+impl Drop for Lval {
+    fn drop(self) {
+        match self {
+            Lval::Post(_, _) => {}
+            Lval::Join(_, _) => {}
+        }
+    }
 }
