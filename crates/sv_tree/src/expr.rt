@@ -1,5 +1,12 @@
 // Expressions, and the targets of assignments (IEEE 1800-2017, A.8).
-use crate::{AtomWord, BinaryWord, Name, PartWord, UnaryWord, VectorWord};
+ghost use Rattle.std.specs.Prelude.{◌≡◌};
+ghost use Rattle.sv_tree.specs.Roots.{alone};
+ghost use Rattle.sv_tree.specs.TypeGrammar.{size_of};
+ghost use Rattle.sv_tree.specs.Expr as tree;
+ghost use Rattle.sv_tree.specs.View.{expr, suffix_list};
+ghost use Rattle.sv_tree.specs.StmtView.{dimension};
+
+use crate::{AtomWord, BinaryWord, Dimension, Name, PartWord, UnaryWord, VectorWord};
 use sv_value::{Place, Text};
 
 /// What a name with suffixes begins with: `"this" | "super" "." id | id ["::" id]` (A.8.4).
@@ -21,6 +28,20 @@ impl Drop for Root {
             Root::Super(_, _) => {}
             Root::Plain(_) => {}
             Root::Scoped(_, _) => {}
+        }
+    }
+}
+
+impl Root {
+    /// A name that stands alone, or else the root itself.
+    pub fn into_name(self) -> Result<Name, Root>
+        ensures { result ≡ alone self }
+    {
+        match self {
+            Root::This(at) => Err(Root::This(at)),
+            Root::Super(at, name) => Err(Root::Super(at, name)),
+            Root::Plain(name) => Ok(name),
+            Root::Scoped(scope, name) => Err(Root::Scoped(scope, name)),
         }
     }
 }
@@ -165,6 +186,41 @@ impl Drop for Expr {
                 no: _,
             } => {}
         }
+    }
+}
+
+impl Expr {
+    /// The dimension with this alone between its brackets, at `[`: `$` is that of a queue, a name alone that of a type or of a
+    /// constant, and all else a size (A.2.5).
+    pub fn into_dimension(self, at: Place) -> Dimension
+        ensures { dimension result ≡ size_of (expr self) at }
+    {
+        match self {
+            Expr::Dollar(_) => Dimension::Queue(at),
+            Expr::Post(root, suffixes) => post_dimension(root, suffixes, at),
+            size => Dimension::Size(at, size),
+        }
+    }
+}
+
+/// A root with its suffixes.
+fn post(root: Root, suffixes: Vec<Suffix>) -> Expr
+    ensures { expr result ≡ tree.Post root (suffix_list suffixes.items) }
+{
+    Expr::Post(root, suffixes)
+}
+
+/// The dimension with a name alone between its brackets, or with a name and what follows it.
+#[tactic(auto, using(crate::proofs::Sizes::size_more))]
+fn post_dimension(root: Root, suffixes: Vec<Suffix>, at: Place) -> Dimension
+    ensures { dimension result ≡ size_of (tree.Post root (suffix_list suffixes.items)) at }
+{
+    if !suffixes.is_empty() {
+        return Dimension::Size(at, post(root, suffixes));
+    }
+    match root.into_name() {
+        Ok(name) => Dimension::Named(at, name),
+        Err(root) => Dimension::Size(at, post(root, suffixes)),
     }
 }
 
