@@ -2,10 +2,13 @@
 -- least depth of its trees.
 use Rattle.std.proofs.Common.{◌≡◌, true, false, List, [], ◌∷◌, ◌++◌, refl}
 use Rattle.sv_grammar.specs.Code.{fine}
-use Rattle.sv_grammar.specs.Code.Code.{Rep}
+use Rattle.sv_grammar.specs.Code.Code.{Chain, Rep}
 use Rattle.sv_tree.specs.declared.kind.Kind.TheVariants as k
+use Rattle.sv_tree.specs.declared.word.Precedence.{Precedence}
+use Rattle.sv_tree.specs.declared.word.Precedence.TheVariants as precedence
+use Rattle.sv_tree.specs.Depth.{depth}
 use Rattle.sv_tree.specs.Forms.{Production, Value, codes_of, commas, kinds_of}
-use Rattle.sv_tree.specs.ExprGrammar.{comma_expr, inner_exprs, select, suffix, suffixes, post_rest, named_post, this_post, super_post, post, targets, lval, system_call, super_call, call, closed, cast, number, time, text, null_, dollar, group, named, this, repeated, braces, word_cast, plain_prim, prim, prefixed, unary, levels, expr_over, expr, plain_unary, plain_expr, cast_rest, arguments, atom_words, unary_words, vector_words}
+use Rattle.sv_tree.specs.ExprGrammar.{stronger, joined, link, comma_expr, inner_exprs, select, suffix, suffixes, post_rest, named_post, this_post, super_post, post, targets, lval, system_call, super_call, call, closed, cast, number, time, text, null_, dollar, group, named, this, repeated, braces, word_cast, plain_prim, prim, prefixed, unary, levels, expr_over, expr, plain_unary, plain_expr, cast_rest, arguments, atom_words, unary_words, vector_words}
 use Rattle.sv_tree.specs.Grammar.{heads, need, expr_first, prim_first}
 use Rattle.sv_tree.proofs.Known.{IsKnown}
 
@@ -170,3 +173,19 @@ comma_expr_list = refl
 pub expr_commas : fine Production Value heads need (commas expr) ≡ true
 unfolding comma_expr select suffix suffixes post_rest this_post system_call super_call closed cast number time text null_ dollar group named this braces word_cast plain_prim prim prefixed unary levels expr_over expr
 expr_commas = refl
+
+-- ---- the operators of each precedence
+
+pub level_fine : (p : Precedence) → fine Production Value heads need (Chain depth (joined p) (levels unary (stronger p)) (link p)) ≡ true
+unfolding comma_expr select suffix suffixes post_rest this_post system_call super_call closed cast number time text null_ dollar group named this braces word_cast plain_prim prim prefixed unary levels
+level_fine precedence.Power = refl
+level_fine precedence.Multiplicative = refl
+level_fine precedence.Additive = refl
+level_fine precedence.Shift = refl
+level_fine precedence.Relational = refl
+level_fine precedence.Equality = refl
+level_fine precedence.And = refl
+level_fine precedence.Xor = refl
+level_fine precedence.Or = refl
+level_fine precedence.LogicalAnd = refl
+level_fine precedence.LogicalOr = refl
