@@ -286,7 +286,7 @@ plain_unary = Alt prefixed plain_prim
 unfoldable pub plain_expr : C tree.Expr
 plain_expr = expr_over plain_unary
 
--- the cast at the very front of an expression is one to c
+-- the cast that an expression begins with is one to c
 abbrev pub with_cast : CastType → tree.Expr → tree.Expr
 with_cast c (tree.Cast d e) = tree.Cast c e
 with_cast c (tree.Binary w at a b) = tree.Binary w at (with_cast c a) b

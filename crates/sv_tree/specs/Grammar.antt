@@ -52,7 +52,7 @@ type_words = k.Logic ∷ k.Bit ∷ k.Reg ∷ k.String ∷ k.Event ∷ k.Byte ∷
 abbrev pub unnamed_first : List ℕ
 unnamed_first = codes_of (k.SystemName ∷ k.Void ∷ k.Begin ∷ k.Fork ∷ k.If ∷ k.Case ∷ k.Casez ∷ k.Casex ∷ k.For ∷ k.While ∷ k.Do ∷ k.Repeat ∷ k.Forever ∷ k.Foreach ∷ k.Wait ∷ k.Disable ∷ k.Break ∷ k.Continue ∷ k.Return ∷ k.This ∷ k.Super ∷ k.Semicolon ∷ k.LeftBrace ∷ k.Hash ∷ k.HashHash ∷ k.At ∷ k.Arrow ∷ k.PlusPlus ∷ k.MinusMinus ∷ [])
 
--- what follows the name at the front of a statement
+-- what follows the name that a statement begins with
 abbrev pub named_first : List ℕ
 named_first = codes_of (k.Semicolon ∷ k.Colon ∷ k.LeftParenthesis ∷ k.LeftBracket ∷ k.Dot ∷ k.ColonColon ∷ k.Equals ∷ k.LessEquals ∷ k.PlusPlus ∷ k.MinusMinus ∷ []) ++ kinds_of assign_words
 
