@@ -40,7 +40,11 @@ atom_words = (k.Byte, atom_word.Byte) ∷ (k.Shortint, atom_word.Shortint) ∷ (
 
 -- the operators before an operand
 abbrev pub unary_words : Words UnaryWord
-unary_words = (k.Plus, unary_word.Plus) ∷ (k.Minus, unary_word.Minus) ∷ (k.Not, unary_word.Not) ∷ (k.Tilde, unary_word.Invert) ∷ (k.Ampersand, unary_word.And) ∷ (k.TildeAmpersand, unary_word.Nand) ∷ (k.Bar, unary_word.Or) ∷ (k.TildeBar, unary_word.Nor) ∷ (k.Caret, unary_word.Xor) ∷ (k.TildeCaret, unary_word.Xnor) ∷ (k.CaretTilde, unary_word.Xnor) ∷ []
+unary_words =
+    (k.Plus, unary_word.Plus) ∷ (k.Minus, unary_word.Minus) ∷ (k.Not, unary_word.Not) ∷ (k.Tilde, unary_word.Invert) ∷
+    (k.Ampersand, unary_word.And) ∷ (k.TildeAmpersand, unary_word.Nand) ∷ (k.Bar, unary_word.Or) ∷
+    (k.TildeBar, unary_word.Nor) ∷ (k.Caret, unary_word.Xor) ∷ (k.TildeCaret, unary_word.Xnor) ∷
+    (k.CaretTilde, unary_word.Xnor) ∷ []
 
 -- the binary operators of each precedence (Table 11-2)
 abbrev pub binary_words : Precedence → Words BinaryWord
@@ -68,7 +72,9 @@ stronger precedence.And = precedence.Equality ∷ precedence.Relational ∷ prec
 stronger precedence.Xor = precedence.And ∷ precedence.Equality ∷ precedence.Relational ∷ precedence.Shift ∷ precedence.Additive ∷ precedence.Multiplicative ∷ precedence.Power ∷ []
 stronger precedence.Or = precedence.Xor ∷ precedence.And ∷ precedence.Equality ∷ precedence.Relational ∷ precedence.Shift ∷ precedence.Additive ∷ precedence.Multiplicative ∷ precedence.Power ∷ []
 stronger precedence.LogicalAnd = precedence.Or ∷ precedence.Xor ∷ precedence.And ∷ precedence.Equality ∷ precedence.Relational ∷ precedence.Shift ∷ precedence.Additive ∷ precedence.Multiplicative ∷ precedence.Power ∷ []
-stronger precedence.LogicalOr = precedence.LogicalAnd ∷ precedence.Or ∷ precedence.Xor ∷ precedence.And ∷ precedence.Equality ∷ precedence.Relational ∷ precedence.Shift ∷ precedence.Additive ∷ precedence.Multiplicative ∷ precedence.Power ∷ []
+stronger precedence.LogicalOr =
+    precedence.LogicalAnd ∷ precedence.Or ∷ precedence.Xor ∷ precedence.And ∷ precedence.Equality ∷
+    precedence.Relational ∷ precedence.Shift ∷ precedence.Additive ∷ precedence.Multiplicative ∷ precedence.Power ∷ []
 
 -- all, the weakest first
 abbrev pub precedences : List Precedence

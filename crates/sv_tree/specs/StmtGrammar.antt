@@ -89,7 +89,13 @@ event =
 
 -- aop
 abbrev pub assign_words : Words BinaryWord
-assign_words = (k.PlusEquals, binary_word.Plus) ∷ (k.MinusEquals, binary_word.Minus) ∷ (k.StarEquals, binary_word.Multiply) ∷ (k.SlashEquals, binary_word.Divide) ∷ (k.PercentEquals, binary_word.Remainder) ∷ (k.AmpersandEquals, binary_word.And) ∷ (k.BarEquals, binary_word.Or) ∷ (k.CaretEquals, binary_word.Xor) ∷ (k.ShiftLeftEquals, binary_word.ShiftLeft) ∷ (k.ShiftRightEquals, binary_word.ShiftRight) ∷ (k.ShiftLeftSignedEquals, binary_word.ShiftLeftSigned) ∷ (k.ShiftRightSignedEquals, binary_word.ShiftRightSigned) ∷ []
+assign_words =
+    (k.PlusEquals, binary_word.Plus) ∷ (k.MinusEquals, binary_word.Minus) ∷ (k.StarEquals, binary_word.Multiply) ∷
+    (k.SlashEquals, binary_word.Divide) ∷ (k.PercentEquals, binary_word.Remainder) ∷
+    (k.AmpersandEquals, binary_word.And) ∷ (k.BarEquals, binary_word.Or) ∷ (k.CaretEquals, binary_word.Xor) ∷
+    (k.ShiftLeftEquals, binary_word.ShiftLeft) ∷ (k.ShiftRightEquals, binary_word.ShiftRight) ∷
+    (k.ShiftLeftSignedEquals, binary_word.ShiftLeftSigned) ∷ (k.ShiftRightSignedEquals, binary_word.ShiftRightSigned) ∷
+    []
 
 -- the operator of an assignment
 abbrev pub assign_word : Tok → BinaryWord
