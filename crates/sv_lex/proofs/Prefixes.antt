@@ -1,4 +1,4 @@
--- Laws of the longest front that passes a test.
+-- Laws of the longest prefix that passes a test.
 use Rattle.std.proofs.Common.{◌≡◌, ℕ, get_or, zero, suc, ◌+◌, ◌-◌, ◌<◌, ◌≤◌, ◌⊎◌, max, Bool, true, false, not, cond, ◌&&◌, ◌||◌, eqb, List, [], ◌∷◌, length, take, drop, refl, sym, ap, ◌∙◌, ⊎_elim, inl, inr, arith}
 use Rattle.std.specs.List.{list_all, prefix_len, starts_with}
 use Rattle.std.proofs.lemmas.Bool.{ne_eqb, eq-eqb, cases_lt}
@@ -75,7 +75,7 @@ pub longest-or : (p q : List ℕ → Bool) (s : List ℕ) → longest (λ w. p w
 unfolding longest
 longest-or p q s = within-or p q s (length s)
 
--- a front that is at least as long as the longest passes exactly where it is the longest
+-- a prefix that is at least as long as the longest passes exactly where it is the longest
 same_or_below : (a b : ℕ) → suc a ≤ suc b → (suc a ≤ b) ⊎ (suc a ≡ suc b)
 same_or_below a b k = ⊎_elim (λ lt. inl (omega arith)) (λ ge. inr (omega arith)) (cases_lt a b)
 
@@ -126,15 +126,15 @@ longest_short p (c ∷ cs) h = absurd (omega arith)
 tail_is : (c : ℕ) (cs : List ℕ) → cs ≡ tail (c ∷ cs)
 tail_is c cs = sym (ap (λ n. take n cs) (omega arith) ∙ take_all (length cs) cs (omega arith))
 
-pub first_front : (p q : List ℕ → Bool) (f : ℕ → Bool) → ((c : ℕ) (w : List ℕ) → p (c ∷ w) ≡ (f c && q w)) → (s : List ℕ) → 1 ≤ length s → longest p s ≡ cond (f (first s)) (grown (q []) (longest q (tail s))) 0
-first_front p q f e [] h = absurd (omega arith)
-first_front p q f e (c ∷ cs) h = longest-first p q (f c) c (e c) cs ∙ ap (λ l. cond (f c) (grown (q []) (longest q l)) 0) (tail_is c cs)
+pub first_prefix : (p q : List ℕ → Bool) (f : ℕ → Bool) → ((c : ℕ) (w : List ℕ) → p (c ∷ w) ≡ (f c && q w)) → (s : List ℕ) → 1 ≤ length s → longest p s ≡ cond (f (first s)) (grown (q []) (longest q (tail s))) 0
+first_prefix p q f e [] h = absurd (omega arith)
+first_prefix p q f e (c ∷ cs) h = longest-first p q (f c) c (e c) cs ∙ ap (λ l. cond (f c) (grown (q []) (longest q l)) 0) (tail_is c cs)
 
 -- a test of the first byte chooses
-pub choice_front : (p q r : List ℕ → Bool) (f g : ℕ → Bool) → ((c : ℕ) (w : List ℕ) → p (c ∷ w) ≡ cond (f c) (q w) (g c && r w)) → (s : List ℕ) → 1 ≤ length s
+pub choice_prefix : (p q r : List ℕ → Bool) (f g : ℕ → Bool) → ((c : ℕ) (w : List ℕ) → p (c ∷ w) ≡ cond (f c) (q w) (g c && r w)) → (s : List ℕ) → 1 ≤ length s
     → longest p s ≡ cond (f (first s)) (grown (q []) (longest q (tail s))) (cond (g (first s)) (grown (r []) (longest r (tail s))) 0)
-choice_front p q r f g e [] h = absurd (omega arith)
-choice_front p q r f g e (c ∷ cs) h =
+choice_prefix p q r f g e [] h = absurd (omega arith)
+choice_prefix p q r f g e (c ∷ cs) h =
     by_test (f c) (e c) ∙ ap (λ l. cond (f c) (grown (q []) (longest q l)) (cond (g c) (grown (r []) (longest r l)) 0)) (tail_is c cs)
   where
     by_test : (b : Bool) → ((w : List ℕ) → p (c ∷ w) ≡ cond b (q w) (g c && r w)) → longest p (c ∷ cs) ≡ cond b (grown (q []) (longest q cs)) (cond (g c) (grown (r []) (longest r cs)) 0)
@@ -145,10 +145,10 @@ pub longest-agree : (p q : List ℕ → Bool) (c : ℕ) → ((w : List ℕ) → 
 longest-agree p q c e cs = longest-cons p (λ w. q (c ∷ w)) c e cs ∙ sym (longest-cons q (λ w. q (c ∷ w)) c (λ w. refl) cs)
 
 -- a byte may stand before what another test reads
-pub may_front : (p q r : List ℕ → Bool) (f : ℕ → Bool) → ((c : ℕ) (w : List ℕ) → p (c ∷ w) ≡ cond (f c) (q w) (r (c ∷ w))) → (s : List ℕ) → 1 ≤ length s
+pub may_prefix : (p q r : List ℕ → Bool) (f : ℕ → Bool) → ((c : ℕ) (w : List ℕ) → p (c ∷ w) ≡ cond (f c) (q w) (r (c ∷ w))) → (s : List ℕ) → 1 ≤ length s
     → longest p s ≡ cond (f (first s)) (grown (q []) (longest q (tail s))) (longest r s)
-may_front p q r f e [] h = absurd (omega arith)
-may_front p q r f e (c ∷ cs) h =
+may_prefix p q r f e [] h = absurd (omega arith)
+may_prefix p q r f e (c ∷ cs) h =
     by_test (f c) (e c) ∙ ap (λ l. cond (f c) (grown (q []) (longest q l)) (longest r (c ∷ cs))) (tail_is c cs)
   where
     by_test : (b : Bool) → ((w : List ℕ) → p (c ∷ w) ≡ cond b (q w) (r (c ∷ w))) → longest p (c ∷ cs) ≡ cond b (grown (q []) (longest q cs)) (longest r (c ∷ cs))
@@ -173,10 +173,10 @@ over_more n (suc m) =
     let more : suc (suc (n + m)) ≡ 1 + n + suc m = omega arith in
     ap (grown false) (over_suc n m ∙ less) ∙ more ∙ sym (over_suc (1 + n) m)
 
-pub run_front : (p q : List ℕ → Bool) (f : ℕ → Bool) → p [] ≡ false → ((c : ℕ) (w : List ℕ) → p (c ∷ w) ≡ cond (f c) (p w) (q (c ∷ w))) → (s : List ℕ)
+pub run_prefix : (p q : List ℕ → Bool) (f : ℕ → Bool) → p [] ≡ false → ((c : ℕ) (w : List ℕ) → p (c ∷ w) ≡ cond (f c) (p w) (q (c ∷ w))) → (s : List ℕ)
     → longest p s ≡ over (prefix_len f s) (longest q (drop (prefix_len f s) s))
-run_front p q f z e [] = longest-nil p ∙ ap (over 0) (sym (longest-nil q))
-run_front p q f z e (c ∷ cs) = by_test (f c) (e c) (run_front p q f z e cs)
+run_prefix p q f z e [] = longest-nil p ∙ ap (over 0) (sym (longest-nil q))
+run_prefix p q f z e (c ∷ cs) = by_test (f c) (e c) (run_prefix p q f z e cs)
   where
     by_test : (b : Bool) → ((w : List ℕ) → p (c ∷ w) ≡ cond b (p w) (q (c ∷ w))) → longest p cs ≡ over (prefix_len f cs) (longest q (drop (prefix_len f cs) cs))
         → longest p (c ∷ cs) ≡ over (cond b (1 + prefix_len f cs) 0) (longest q (drop (cond b (1 + prefix_len f cs) 0) (c ∷ cs)))
@@ -189,13 +189,13 @@ pub longest-is_nil : (s : List ℕ) → longest is_nil s ≡ 0
 longest-is_nil [] = longest-nil is_nil
 longest-is_nil (c ∷ cs) = longest-cons is_nil (λ w. false) c (λ w. refl) cs ∙ ap (grown false) (longest-none (λ w. false) (λ w. refl) cs)
 
-pub one_front : (f : ℕ → Bool) (s : List ℕ) → 1 ≤ length s → longest (is_one f) s ≡ cond (f (first s)) 1 0
+pub one_prefix : (f : ℕ → Bool) (s : List ℕ) → 1 ≤ length s → longest (is_one f) s ≡ cond (f (first s)) 1 0
 unfolding is_one
-one_front f s h = first_front (is_one f) is_nil f (λ c w. refl) s h ∙ ap (λ n. cond (f (first s)) (suc n) 0) (longest-is_nil (tail s))
+one_prefix f s h = first_prefix (is_one f) is_nil f (λ c w. refl) s h ∙ ap (λ n. cond (f (first s)) (suc n) 0) (longest-is_nil (tail s))
 
-pub after_front : (k : ℕ) (p : List ℕ → Bool) (s : List ℕ) → 1 ≤ length s → longest (is_after k p) s ≡ cond (first s == k) (grown (p []) (longest p (tail s))) 0
+pub after_prefix : (k : ℕ) (p : List ℕ → Bool) (s : List ℕ) → 1 ≤ length s → longest (is_after k p) s ≡ cond (first s == k) (grown (p []) (longest p (tail s))) 0
 unfolding is_after
-after_front k p s h = first_front (is_after k p) p (λ c. c == k) (λ c w. refl) s h
+after_prefix k p s h = first_prefix (is_after k p) p (λ c. c == k) (λ c w. refl) s h
 
 -- ---- words
 
@@ -221,10 +221,10 @@ longest-is_word (x ∷ ws) (c ∷ cs) =
     ∙ cond_and (nat_eq x c) (starts_with nat_eq cs ws) (suc (length ws))
 
 -- a word does not stand where a text begins with another byte
-pub no_front : (word s : List ℕ) → begin_apart word s ≡ true → longest (is_word word) s ≡ 0
-no_front [] s e = absurd cc
-no_front (x ∷ ws) [] e = absurd cc
-no_front (x ∷ ws) (c ∷ cs) e =
+pub no_prefix : (word s : List ℕ) → begin_apart word s ≡ true → longest (is_word word) s ≡ 0
+no_prefix [] s e = absurd cc
+no_prefix (x ∷ ws) [] e = absurd cc
+no_prefix (x ∷ ws) (c ∷ cs) e =
     longest-first (is_word (x ∷ ws)) (is_word ws) (nat_eq x c) c (λ w. refl) cs ∙ ap (λ b. cond b (grown (is_word ws []) (longest (is_word ws) cs)) 0) (differ (nat_eq x c) e)
   where
     differ : (b : Bool) → not b ≡ true → b ≡ false
