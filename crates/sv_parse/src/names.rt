@@ -15,10 +15,10 @@ use sv_tree::{Kind, Name, Token};
 use sv_value::NoMemory;
 
 /// The name that a token is.
-pub fn name_of(alloc: Global, token: &Token) -> Result<Name, NoMemory>
+pub fn name_of(token: &Token) -> Result<Name, NoMemory>
     ensures { IfOk result (λ n. n ≡ forms.name_of (tok token.now)) }
 {
-    let text = token.text.copy(alloc)?;
+    let text = token.text.share()?;
     Ok(Name { at: token.at, text })
 }
 
@@ -27,7 +27,7 @@ pub fn name<'a>(alloc: Global, tokens: &'a [Token]) -> Read<'a, Name>
     ensures { Gives (λ x. (x.0, toks x.1.now)) result (reads 0 forms.name (toks tokens.now)) }
 {
     let (token, rest) = expect(tokens, Kind::Name)?;
-    Ok((name_of(alloc, token)?, rest))
+    Ok((name_of(token)?, rest))
 }
 
 /// `[":" id]`, and the tokens after it.

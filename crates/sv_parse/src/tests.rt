@@ -3,14 +3,14 @@ use crate::{
     Budget, Names, SyntaxFault, SyntaxKind, expect_word, fault_of, label, list, list_or_none,
     maybe, maybe_word, skip, word_or,
 };
-use std::alloc::{AllocError, Global};
+use std::alloc::Global;
 use std::process::Abort;
 use std::test::Fail;
 use sv_tree::{Kind, Sign, StepWord, Token};
-use sv_value::{Place, Text};
+use sv_value::{Excerpt, NoMemory, Place};
 
 /// A token of each kind, in the columns from 1 on.
-fn tokens(alloc: Global, kinds: &[Kind]) -> Result<Vec<Token>, AllocError> {
+fn tokens(alloc: Global, kinds: &[Kind]) -> Result<Vec<Token>, NoMemory> {
     let mut list = Vec::new(alloc);
     let mut col = 1;
     for kind in kinds {
@@ -22,7 +22,7 @@ fn tokens(alloc: Global, kinds: &[Kind]) -> Result<Vec<Token>, AllocError> {
         list.push(Token {
             kind: *kind,
             at,
-            text: Text::new(alloc),
+            text: Excerpt::new(alloc, b"")?,
         })?;
         col = col.saturating_add(1);
     }

@@ -7,7 +7,7 @@ ghost use Rattle.sv_tree.specs.View.{expr, suffix_list};
 ghost use Rattle.sv_tree.specs.StmtView.{dimension};
 
 use crate::{AtomWord, BinaryWord, Dimension, Name, PartWord, UnaryWord, VectorWord};
-use sv_value::{Place, Text};
+use sv_value::{Excerpt, Place};
 
 /// What a name with suffixes begins with: `"this" | "super" "." id | id ["::" id]` (A.8.4).
 pub enum Root {
@@ -63,7 +63,7 @@ pub enum CastType {
     /// `id`, of a type or of a constant that is a width
     Named(Name),
     /// `number`: a width as written, at the number
-    Width(Place, Text),
+    Width(Place, Excerpt),
 }
 
 impl Drop for CastType {
@@ -85,11 +85,11 @@ impl Drop for CastType {
 #[cycle(expr)]
 pub enum Expr {
     /// `number`, at its first byte, as written
-    Number(Place, Text),
+    Number(Place, Excerpt),
     /// `time`: digits and a unit, at its first byte, as written
-    Time(Place, Text),
+    Time(Place, Excerpt),
     /// `text`: a string literal, at its first quote, as written with both quotes
-    Text(Place, Text),
+    Text(Place, Excerpt),
     /// `"null"`, at the word
     Null(Place),
     /// `"$"`, at the sign

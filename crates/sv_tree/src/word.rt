@@ -1,11 +1,11 @@
 // Names, and the words that choose among alternatives.
-use sv_value::{Place, Text};
+use sv_value::{Excerpt, Place};
 
 /// `id`: a name (IEEE 1800-2017, 5.6), at its first byte.
 #[derive(Drop)]
 pub struct Name {
     pub at: Place,
-    pub text: Text,
+    pub text: Excerpt,
 }
 
 /// Operators before an operand (11.3): `+ - ! ~ & ~& | ~| ^` and `~^` or `^~`.
