@@ -324,8 +324,14 @@ pub fn expression(alloc: Global, objects: &[Object], e: &Expr) -> Result<Typed, 
     ensures { Gives (λ x. x) result (expression objects.now (expr e.now)) }
 {
     match e {
-        Expr::Unary(_, UnaryWord::Invert, operand) => inverted(alloc, objects, operand),
-        Expr::Binary(word, _, left, right) => {
+        Expr::Unary {
+            word: UnaryWord::Invert,
+            operand,
+            ..
+        } => inverted(alloc, objects, operand),
+        Expr::Binary {
+            word, left, right, ..
+        } => {
             let a = operand(alloc, objects, left)?;
             let b = operand(alloc, objects, right)?;
             operation(alloc, *word, a, b)
