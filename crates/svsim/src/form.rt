@@ -165,7 +165,7 @@ fn module_parts(alloc: Global, scale: Scale, unit: &DesignElement) -> Result<Par
     let mut objects = Vec::new(alloc);
     let mut processes = Vec::new(alloc);
     let mut routines = Vec::new(alloc);
-    let name = unit.name.text.as_slice();
+    let name = unit.name.text.bytes();
     add_items(
         alloc,
         name,

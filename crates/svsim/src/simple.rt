@@ -72,7 +72,7 @@ fn printed(
     let Expr::Text(_, text) = format else {
         return Err(FrontFault::NotYet);
     };
-    let pieces = format_of(alloc, text.as_slice())?;
+    let pieces = format_of(alloc, text.bytes())?;
     let values = names_of(alloc, objects, names)?;
     with_values(kind, pieces, values)
 }
@@ -84,7 +84,7 @@ pub fn called(alloc: Global, objects: &[Object], call: &Expr) -> Result<Form, Fr
     let Expr::System(name, Actuals::Written(arguments)) = call else {
         return Err(FrontFault::NotYet);
     };
-    let kind = print_kind(name.text.as_slice())?;
+    let kind = print_kind(name.text.bytes())?;
     printed(alloc, kind, objects, arguments)
 }
 
@@ -148,7 +148,7 @@ pub fn assigned(
         return Err(FrontFault::NotYet);
     };
     let name = target(&assignment.target)?;
-    let variable = variable_named(objects, name.text.as_slice())?;
+    let variable = variable_named(objects, name.text.bytes())?;
     let x = expression(alloc, objects, value)?;
     Ok(Form::Assign {
         targets: lvalues(alloc, name.at, variable)?,
@@ -168,7 +168,7 @@ pub fn assigned_later(
         return Err(FrontFault::NotYet);
     }
     let name = target(&assignment.target)?;
-    let variable = variable_named(objects, name.text.as_slice())?;
+    let variable = variable_named(objects, name.text.bytes())?;
     let x = expression(alloc, objects, &assignment.value)?;
     Ok(Form::Nonblocking {
         targets: lvalues(alloc, name.at, variable)?,
@@ -187,10 +187,10 @@ pub fn delayed(alloc: Global, amount: &Expr) -> Result<Form, FrontFault>
     let Expr::Number(_, text) = amount else {
         return Err(FrontFault::NotYet);
     };
-    if !is_number(MOST_DIGITS, text.as_slice()) {
+    if !is_number(MOST_DIGITS, text.bytes()) {
         return Err(FrontFault::NotYet);
     }
-    let Typed { expr, .. } = literal(alloc, text.as_slice())?;
+    let Typed { expr, .. } = literal(alloc, text.bytes())?;
     Ok(Form::Delay {
         amount: expr,
         in_ticks: false,

@@ -48,10 +48,10 @@ fn range_of(range: &Range) -> Result<u32, FrontFault>
     let Expr::Number(_, low) = &range.right else {
         return Err(FrontFault::NotYet);
     };
-    if low.as_slice() != b"0".as_slice() {
+    if low.bytes() != b"0".as_slice() {
         return Err(FrontFault::NotYet);
     }
-    highest(high.as_slice())
+    highest(high.bytes())
 }
 
 /// `bit` or `logic` with a range, or one bit.
@@ -136,7 +136,7 @@ fn object_of(
 {
     Ok(Object {
         at: name.at,
-        path: path_of(alloc, unit, name.text.as_slice())?,
+        path: path_of(alloc, unit, name.text.bytes())?,
         kind: ObjectKind::Variable,
         ty: DataType::Plain(Plain::Integral(ty.ty)),
         array: None,
