@@ -3,7 +3,7 @@ ghost use Rattle.std.specs.Prelude.{◌≡◌, ◌≢◌, ◌↔◌, ◌≤◌, 
 ghost use Rattle.sv_io.specs.Failing.{failing_at};
 ghost use Rattle.sv_io.specs.Faults.{raised};
 ghost use Rattle.sv_io.specs.Kept.{put_in};
-ghost use Rattle.sv_io.specs.Outside.{AppendsFront};
+ghost use Rattle.sv_io.specs.Outside.{AppendsPrefix};
 
 use crate::failing::failing_at;
 use crate::{FailAt, Sink, SinkError};
@@ -43,7 +43,7 @@ impl MemSink {
         }
     }
 
-    /// Lets the call of that number fail, counted from 1, and take a front of its piece of at most `keep` bytes. Where a
+    /// Lets the call of that number fail, counted from 1, and take a prefix of its piece of at most `keep` bytes. Where a
     /// number is named twice, its first entry holds.
     pub fn fail_at(&mut self, call: u64, keep: usize) -> Result<(), NoMemory>
         ensures ok { OnOk result (self.new ≡ record self.old { failing = self.old.failing ++ record { call = call; keep = keep } ∷ [] }) }
@@ -72,7 +72,7 @@ impl Sink for MemSink {
         ensures left { result ≢ Err SinkError.Memory → self.new ≡ put_in self.old piece.now }
         ensures fails { result ≢ Err SinkError.Memory → (IsErrOf result SinkError.Failed ↔ IsSome (failing_at self.old.failing (raised self.old.calls))) }
         ensures unchanged { IsErrOf result SinkError.Memory → self.new ≡ self.old }
-        ensures part { IsErrOf result SinkError.Failed → AppendsFront (Some self.old.bytes) (Some self.new.bytes) piece.now }
+        ensures part { IsErrOf result SinkError.Failed → AppendsPrefix (Some self.old.bytes) (Some self.new.bytes) piece.now }
         ensures never_falls { self.old.faults ≤ self.new.faults }
     {
         let call = self.calls.saturating_add(1);

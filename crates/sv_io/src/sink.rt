@@ -1,7 +1,7 @@
 // Sinks, seen by the bytes that they got and by their count of faults.
 ghost use Rattle.std.specs.Prelude.{◌≡◌, ◌≢◌, ◌≤◌, List, ℕ, Option, OnOk, IsErrOf};
 ghost use Rattle.sv_io.specs.Faults.{Rose};
-ghost use Rattle.sv_io.specs.Outside.{appended, AppendsFront};
+ghost use Rattle.sv_io.specs.Outside.{appended, AppendsPrefix};
 
 use thiserror::Error;
 
@@ -31,11 +31,11 @@ pub trait Sink {
     /// Takes a piece.
     ///
     /// - Ok: the whole piece stands behind what was got before.
-    /// - `Failed`: a front of the piece does, which may be empty; the count of faults rose.
+    /// - `Failed`: a prefix of the piece does, which may be empty; the count of faults rose.
     /// - `Memory`, which may come at any call: nothing changed.
     fn put(&mut self, piece: &[u8]) -> Result<(), SinkError>
         ensures whole { OnOk result (bytes self.new ≡ appended (bytes self.old) piece.now) }
-        ensures part { IsErrOf result SinkError.Failed → AppendsFront (bytes self.old) (bytes self.new) piece.now }
+        ensures part { IsErrOf result SinkError.Failed → AppendsPrefix (bytes self.old) (bytes self.new) piece.now }
         ensures nothing { IsErrOf result SinkError.Memory → bytes self.new ≡ bytes self.old }
         ensures cause { IsErrOf result SinkError.Failed → Rose (faults self.old) (faults self.new) }
         ensures only_cause { result ≢ Err SinkError.Failed → faults self.new ≡ faults self.old }

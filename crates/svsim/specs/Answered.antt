@@ -1,0 +1,71 @@
+-- What is left where the words are answered, up to the closing line: a working form, not needed to know what a call leaves.
+use Rattle.std.specs.Prelude.{ℕ, ◌≡◌, ◌≢◌, ◌<◌, ◌++◌, true, codes, List, [], Option, Some, Result, Err, IfOk, IsErrOf, string_bytes, ◌⊎◌}
+use Rattle.sv_io.specs.Faults.{Rose}
+use Rattle.sv_io.specs.Outside.{appended}
+use mathlib.Core.List.{IsPrefix}
+use Rattle.sv_flat.specs.declared.design.Parts.{Parts}
+use Rattle.sv_flat.specs.Directed.{log_text}
+use Rattle.svsim.specs.declared.run.Closing.{Closing}
+use Rattle.svsim.specs.declared.run.Cut.{Cut}
+use Rattle.svsim.specs.declared.run.Cut.TheVariants.{LogFailed}
+use Rattle.svsim.specs.Said.{Said, Limits, Files, SaysOn, Says, IsLine, line, run_of}
+use Rattle.svsim.specs.Simulated.{NoFault, IsPrefixOfRecords, IsAllSaid, NamesFile}
+use Rattle.svsim.specs.Source.{IsSource}
+use Rattle.svsim.specs.Words.{Asked, asked}
+
+-- what is seen of a shelf over a call: its files, its faults before and after, and the name for which it failed last
+pub record ShelfSeen : Type 0 where
+  pub files : Files
+  pub before : ℕ
+  pub after : ℕ
+  pub failed : Option (List ℕ)
+
+-- what is seen of a log over a call: its bytes and its faults, before and after
+pub record LogSeen : Type 0 where
+  pub old : Option (List ℕ)
+  pub new : Option (List ℕ)
+  pub before : ℕ
+  pub after : ℕ
+
+-- what is seen of a shelf
+abbrev pub shelf_seen : {S : Type 0} → (files : S → Files) → (faults : S → ℕ) → (failed : S → Option (List ℕ)) → (before after : S) → ShelfSeen
+shelf_seen files faults failed before after = record { files = files before; before = faults before; after = faults after; failed = failed after }
+
+-- what is seen of a log
+abbrev pub log_seen : {S : Type 0} → (bytes : S → Option (List ℕ)) → (faults : S → ℕ) → (before after : S) → LogSeen
+log_seen bytes faults before after = record { old = bytes before; new = bytes after; before = faults before; after = faults after }
+
+-- the records of what is said were put, and its closing line and status are given
+abbrev pub Gives : (Said → Type 0) → LogSeen → Closing → Type 0
+Gives says o c = (said : Said) × says said × (o.new ≡ appended o.old said.records) × (string_bytes c.line ≡ said.closing) × (c.status ≡ said.status)
+
+-- the words ask for a file, which could not be read, and nothing was put
+pub record IsNotRead (l : Limits) (words : List (List ℕ)) (s : ShelfSeen) (o : LogSeen) (c : Closing) : Type 0 where
+  pub simulation : Asked
+  pub asks : asked l.steps words ≡ Some simulation
+  pub name : s.failed ≡ Some simulation.file
+  pub line_is : string_bytes c.line ≡ line (simulation.file ++ codes ": not read")
+  pub status_is : c.status ≡ 5
+  pub nothing : o.new ≡ o.old
+
+-- records of the run of the text were put: a prefix of them
+abbrev pub PutsRecords : Asked → List ℕ → LogSeen → Type 0
+PutsRecords a text o =
+    (records : List ℕ) × ((records ≡ []) ⊎ ((d : Parts) × IsSource text d × IsPrefix records (log_text true (run_of a.active a.steps d))))
+    × (o.new ≡ appended o.old records)
+
+-- a call gives a closing, or tells what cut it short
+pub record Closes (o : LogSeen) (r : Result Closing Cut) : Type 0 where
+  pub own : IfOk r (λ c. c.status < 6)
+  pub is_line : IfOk r (λ c. IsLine (string_bytes c.line))
+  pub cause : IsErrOf r LogFailed → Rose o.before o.after
+  pub only_cause : r ≢ Err LogFailed → o.after ≡ o.before
+
+-- the words are answered
+pub record Answers (l : Limits) (words : List (List ℕ)) (s : ShelfSeen) (o : LogSeen) (r : Result Closing Cut) : Type 0 where
+  pub said : IfOk r (λ c. NoFault s.before s.after → Gives (Says l words s.files) o c)
+  pub not_read : IfOk r (λ c. s.after ≢ s.before → IsNotRead l words s o c)
+  pub shelf : s.after ≢ s.before → Rose s.before s.after × NamesFile l words s.failed
+  pub put : (records : List ℕ) × IsPrefixOfRecords l words s.files records × (o.new ≡ appended o.old records)
+  pub all : IfOk r (λ c. (records : List ℕ) × IsAllSaid l words s.files records (string_bytes c.line) × (o.new ≡ appended o.old records))
+  pub closed : Closes o r

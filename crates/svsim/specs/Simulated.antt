@@ -1,0 +1,62 @@
+-- What a call leaves in the log, whatever happens outside.
+use Rattle.std.specs.Prelude.{ℕ, ◌≡◌, ◌<◌, ◌^◌, ◌++◌, [], List, Option, Some, codes, map, String, Vec, string_bytes, ◌⊎◌}
+use Rattle.std.specs.Global.{Global}
+use Rattle.sv_io.specs.Outside.{appended}
+use mathlib.Core.List.{IsPrefix}
+use Rattle.svsim.specs.Said.{Said, Limits, Files, Says, line, IsPrefixOfLine}
+use Rattle.svsim.specs.Words.{Asked, asked}
+
+-- the words, as texts
+abbrev pub texts : Vec (String Global) Global → List (List ℕ)
+texts words = map string_bytes words.items
+
+-- no fault came: a count that stands so high may stay where it is
+abbrev pub NoFault : (before after : ℕ) → Type 0
+NoFault before after = (before < 2 ^ 63) × (after ≡ before)
+
+-- ---- the log
+
+-- all that is to be said was put, and its status answered
+abbrev pub PutsAll : Limits → List (List ℕ) → Files → (old new : Option (List ℕ)) → (status : ℕ) → Type 0
+PutsAll l words files old new status =
+    (said : Said) × Says l words files said × (new ≡ appended old (said.records ++ said.closing)) × (status ≡ said.status)
+
+-- these bytes begin the records that are to be put
+abbrev pub IsPrefixOfRecords : Limits → List (List ℕ) → Files → List ℕ → Type 0
+IsPrefixOfRecords l words files records = (records ≡ []) ⊎ ((said : Said) × Says l words files said × IsPrefix records said.records)
+
+-- a prefix of the records was put, and then a prefix of one line
+abbrev pub PutsPrefix : Limits → List (List ℕ) → Files → (old new : Option (List ℕ)) → Type 0
+PutsPrefix l words files old new =
+    (records rest : List ℕ) × IsPrefixOfRecords l words files records × IsPrefixOfLine rest × (new ≡ appended old (records ++ rest))
+
+-- all the records that are to be put, and the closing line
+pub data IsAllSaid (l : Limits) (words : List (List ℕ)) (files : Files) : (records closing : List ℕ) → Type 0 where
+  whole : {said : Said} → Says l words files said → IsAllSaid l words files said.records said.closing
+  not_read : (a : Asked) → asked l.steps words ≡ Some a → IsAllSaid l words files [] (line (a.file ++ codes ": not read"))
+
+-- What a log has that failed: of the records those up to one that was not put whole, or all of them and a prefix of the closing line;
+-- where memory ran out, a prefix of the line that says so may stand in its place.
+abbrev pub IsCut : Limits → List (List ℕ) → Files → (old new : Option (List ℕ)) → Type 0
+IsCut l words files old new =
+    (records rest : List ℕ) × (new ≡ appended old (records ++ rest))
+    × ((IsPrefixOfRecords l words files records × (rest ≡ []))
+    ⊎ ((closing : List ℕ) × IsAllSaid l words files records closing × IsPrefix rest closing)
+    ⊎ (IsPrefixOfRecords l words files records × IsPrefix rest (line (codes "out of memory"))))
+
+-- What a log has where memory ran out: a prefix of the records, and behind it nothing, or the line that says so.
+abbrev pub IsOutOfMemory : Limits → List (List ℕ) → Files → (old new : Option (List ℕ)) → Type 0
+IsOutOfMemory l words files old new =
+    (records rest : List ℕ) × IsPrefixOfRecords l words files records × ((rest ≡ []) ⊎ (rest ≡ line (codes "out of memory")))
+    × (new ≡ appended old (records ++ rest))
+
+-- ---- the shelf
+
+-- the file that the words ask for is the one for which the shelf failed
+abbrev pub NamesFile : Limits → List (List ℕ) → (failed : Option (List ℕ)) → Type 0
+NamesFile l words failed = (a : Asked) × (asked l.steps words ≡ Some a) × (failed ≡ Some a.file)
+
+-- the line was put that says that this file could not be read
+abbrev pub PutsNotRead : Limits → List (List ℕ) → (failed : Option (List ℕ)) → (old new : Option (List ℕ)) → Type 0
+PutsNotRead l words failed old new =
+    (a : Asked) × (asked l.steps words ≡ Some a) × (failed ≡ Some a.file) × (new ≡ appended old (line (a.file ++ codes ": not read")))
