@@ -1,7 +1,7 @@
 // What a step prints, and how it is put.
 ghost use Rattle.std.specs.Prelude.{◌≡◌, ◌≢◌, OnOk, OnErr, IsErrOf};
 ghost use Rattle.sv_io.specs.Faults.{Rose};
-ghost use Rattle.sv_io.specs.Outside.{appended, AppendsFront};
+ghost use Rattle.sv_io.specs.Outside.{appended, AppendsPrefix};
 ghost use Rattle.sv_kernel.specs.Log.{texts_of};
 
 use sv_io::{Sink, SinkError};
@@ -17,7 +17,7 @@ pub struct Line {
 /// Puts the texts of lines, in order, up to the first that is not taken.
 pub fn put_lines<O: Sink>(out: &mut O, lines: &[Line]) -> Result<(), SinkError>
     ensures whole { OnOk result (O.bytes out.new ≡ appended (O.bytes out.old) (texts_of lines.now)) }
-    ensures part { OnErr result (AppendsFront (O.bytes out.old) (O.bytes out.new) (texts_of lines.now)) }
+    ensures part { OnErr result (AppendsPrefix (O.bytes out.old) (O.bytes out.new) (texts_of lines.now)) }
     ensures cause { IsErrOf result SinkError.Failed → Rose (O.faults out.old) (O.faults out.new) }
     ensures only_cause { result ≢ Err SinkError.Failed → O.faults out.new ≡ O.faults out.old }
 {
