@@ -2,10 +2,10 @@
 use Rattle.std.proofs.Common.{◌≡◌, ℕ, zero, suc, ◌+◌, ◌≤◌, Bool, true, false, cond, ◌&&◌, ◌||◌, List, [], ◌∷◌, ◌++◌, Ok, Err, ◌⊎◌, inl, inr, refl, sym, ap, subst, ◌∙◌, append_assoc, arith}
 use Rattle.std.proofs.lemmas.List.{append-nil}
 use Rattle.sv_grammar.specs.Info.{Info, then_info, return_info, one_info, is_some_kind}
-use Rattle.sv_grammar.specs.Language.{Lang, Then, OneOf, Return, Below, Open, Front, Never, Deep, Odd, Reads, Unexpected, Out, Answer}
+use Rattle.sv_grammar.specs.Language.{Lang, Then, OneOf, Return, Below, Open, Prefix, Never, TooDeep, Unexpected, Reads, IsUnexpected, Out, Answer}
 use Rattle.sv_grammar.specs.Reading.{◌>>=◌, one_of}
 use Rattle.sv_grammar.specs.Tokens.{Tok, blank, next, before, mem, disjoint, Has}
-use Rattle.sv_grammar.proofs.Facts.{Facts, front_of, past, cut, then_facts, one_facts, return_facts}
+use Rattle.sv_grammar.proofs.Facts.{Facts, prefix_of, past, cut, then_facts, one_facts, return_facts}
 use Rattle.sv_grammar.proofs.Lists.{Meet, same, longer, shorter, meet, next-append, mem-append, apart}
 
 -- a language at each budget
@@ -21,11 +21,11 @@ Begins l i = (t : Tok) → Has i.first t → (e : ℕ) × Open (l e) (t ∷ [])
 pub open_mono : {A : Type 0} (l : ℕ → Lang A) (i : Info) (on : ℕ → Bool) → Grammar l i on → (d e : ℕ) → d ≤ e → (p : List Tok) → Open (l d) p → Open (l e) p
 open_mono l i on g d e le p o = (o.0, o.1, λ n. g.mono d e le o.0 (p ++ o.1) n (o.2 n))
 
-pub front_mono : {A : Type 0} (l : ℕ → Lang A) (i : Info) (on : ℕ → Bool) → Grammar l i on → (d e : ℕ) → d ≤ e → (p : List Tok) → Front (l d) p → Front (l e) p
-front_mono l i on g d e le p o = (o.0, o.1, o.2, g.mono d e le o.0 (p ++ o.1) o.2 o.3)
+pub prefix_mono : {A : Type 0} (l : ℕ → Lang A) (i : Info) (on : ℕ → Bool) → Grammar l i on → (d e : ℕ) → d ≤ e → (p : List Tok) → Prefix (l d) p → Prefix (l e) p
+prefix_mono l i on g d e le p o = (o.0, o.1, o.2, g.mono d e le o.0 (p ++ o.1) o.2 o.3)
 
-pub front_open : {A : Type 0} (L : Lang A) (p : List Tok) → Open L p → Front L p
-front_open L p o = (o.0, o.1, blank, o.2 blank)
+pub prefix_open : {A : Type 0} (L : Lang A) (p : List Tok) → Open L p → Prefix L p
+prefix_open L p o = (o.0, o.1, blank, o.2 blank)
 
 -- ---- tests
 
@@ -106,15 +106,15 @@ seq_grammar l m i j on1 on2 on p = record {
 -- after a text x of the first part, before h, what is left is a text of the second
 locate : {A B : Type 0} (l : ℕ → Lang A) (m : A → ℕ → Lang B) (i j : Info) (on1 : ℕ → Bool) (on2 : A → ℕ → Bool) (on : ℕ → Bool) → Parts l m i j on1 on2 on
     → (d e k : ℕ) → d ≤ k → e ≤ k → (x : A) (u : List Tok) (h : Tok) (b : B) (s : List Tok) (n : Tok)
-    → l d x u h → before s n ≡ h → ((z : List Tok) → s ≡ h ∷ z → (Front (l k) (u ++ h ∷ []) → ⊥) ⊎ (Has j.first h))
+    → l d x u h → before s n ≡ h → ((z : List Tok) → s ≡ h ∷ z → (Prefix (l k) (u ++ h ∷ []) → ⊥) ⊎ (Has j.first h))
     → Seq l m e b (u ++ s) n → m x k b s n
 locate l m i j on1 on2 on p d e k dk ek x u h b s n one is stop w =
     cut (l k) (λ x. m x k) i j (on1 k) (p.left.facts k) (λ x. ((p.right x).facts k).starts) p.apart_ x u h b s n (p.left.mono d k dk x u h one) is stop (seq_mono l m i j on1 on2 p.left p.right e k ek b (u ++ s) n w)
 
 -- where the first part can't go on with h and does not end before an h with which the second begins
 blocked : {A B : Type 0} (l : ℕ → Lang A) (m : A → ℕ → Lang B) (i j : Info) (on1 : ℕ → Bool) (on2 : A → ℕ → Bool) (on : ℕ → Bool) → Parts l m i j on1 on2 on
-    → (d e : ℕ) (u : List Tok) (h : Tok) → Open (l d) u → (Front (l e) (u ++ h ∷ []) → ⊥) → ((x : A) → l e x u h → Has j.first h → ⊥)
-    → Front (Seq l m e) (u ++ h ∷ []) → ⊥
+    → (d e : ℕ) (u : List Tok) (h : Tok) → Open (l d) u → (Prefix (l e) (u ++ h ∷ []) → ⊥) → ((x : A) → l e x u h → Has j.first h → ⊥)
+    → Prefix (Seq l m e) (u ++ h ∷ []) → ⊥
 blocked l m i j on1 on2 on p d e u h o shut ends w = go (meet u (h ∷ w.1) w.3.left w.3.right (sym (append_assoc u (h ∷ []) w.1) ∙ w.3.parts))
   where
     go : Meet u (h ∷ w.1) w.3.left w.3.right → ⊥
@@ -124,7 +124,7 @@ blocked l m i j on1 on2 on p d e u h o shut ends w = go (meet u (h ∷ w.1) w.3.
         (((p.right w.3.value).facts e).starts w.0 h w.1 w.2 (subst (λ (v : List Tok). m w.3.value e w.0 v w.2) (sym r) w.3.two))
     go (longer k z q r) =
         let head : k ≡ h = cc in
-        shut (front_of (l e) w.3.value u h z (before w.3.right w.2) (subst (λ (y : Tok). l e w.3.value (u ++ y ∷ z) (before w.3.right w.2)) head (subst (λ (v : List Tok). l e w.3.value v (before w.3.right w.2)) q w.3.one)))
+        shut (prefix_of (l e) w.3.value u h z (before w.3.right w.2) (subst (λ (y : Tok). l e w.3.value (u ++ y ∷ z) (before w.3.right w.2)) head (subst (λ (v : List Tok). l e w.3.value v (before w.3.right w.2)) q w.3.one)))
     go (shorter k z q r) =
         let has : Has j.first k = ((p.right w.3.value).facts e).starts w.0 k (z ++ h ∷ w.1) w.2 (subst (λ (v : List Tok). m w.3.value e w.0 v w.2) r w.3.two) in
         let one : l e w.3.value w.3.left k = subst (λ (v : List Tok). l e w.3.value w.3.left (before v w.2)) r w.3.one in
@@ -156,8 +156,8 @@ before-append (k ∷ u) t z n = refl
 
 -- what both leave after the first part was read
 module _ {A B : Type 0} (l : ℕ → Lang A) (m : A → ℕ → Lang B) (i j : Info) (on1 : ℕ → Bool) (on2 : A → ℕ → Bool) (on : ℕ → Bool) (p : Parts l m i j on1 on2 on) (d : ℕ) (is_on : on d ≡ true) (x : A) (u1 : List Tok) (h : Tok) (o : Open (l d) u1) (word : l d x u1 h) (stops : Never l (u1 ++ h ∷ [])) where
-  after_front : (e k : ℕ) → d ≤ k → e ≤ k → (u2 : List Tok) (t : Tok) → h ≡ before u2 t → Front (Seq l m e) ((u1 ++ u2) ++ t ∷ []) → Front (m x k) (u2 ++ t ∷ [])
-  after_front e k dk ek u2 t hd w =
+  after_prefix : (e k : ℕ) → d ≤ k → e ≤ k → (u2 : List Tok) (t : Tok) → h ≡ before u2 t → Prefix (Seq l m e) ((u1 ++ u2) ++ t ∷ []) → Prefix (m x k) (u2 ++ t ∷ [])
+  after_prefix e k dk ek u2 t hd w =
       let parts : ((u1 ++ u2) ++ t ∷ []) ++ w.1 ≡ u1 ++ (u2 ++ t ∷ w.1) = simp append_assoc in
       let r : m x k w.0 (u2 ++ t ∷ w.1) w.2 = locate l m i j on1 on2 on p d e k dk ek x u1 h w.0 (u2 ++ t ∷ w.1) w.2 word (before-append u2 t w.1 w.2 ∙ sym hd) (λ z q. inl (stops k)) (subst (λ (v : List Tok). Seq l m e w.0 v w.2) parts w.3) in
       (w.0, w.1, w.2, subst (λ (v : List Tok). m x k w.0 v w.2) (sym (append_assoc u2 (t ∷ []) w.1)) r)
@@ -192,75 +192,75 @@ module _ {A B : Type 0} (l : ℕ → Lang A) (m : A → ℕ → Lang B) (i j : I
 
   after : (ts rest : List Tok) (out : Out B) → ts ≡ u1 ++ rest → h ≡ next rest → Answer (m x) d rest out → Answer (Seq l m) d ts out
   after ts rest (Ok b) parts hd c =
-      let hd : h ≡ before c.front (next b.1) = hd ∙ (ap next c.parts ∙ next-append c.front b.1) in
+      let hd : h ≡ before c.prefix (next b.1) = hd ∙ (ap next c.parts ∙ next-append c.prefix b.1) in
       record {
-        front = u1 ++ c.front;
-        parts = parts ∙ (ap (λ (v : List Tok). u1 ++ v) c.parts ∙ sym (append_assoc u1 c.front b.1));
-        viable = after_viable c.front (next b.1) hd c.viable;
-        word = after_word c.front (next b.1) b.0 hd c.word;
-        stops = λ e w. c.stops (d + e) (after_front e (d + e) (omega arith) (omega arith) c.front (next b.1) hd w);
+        prefix = u1 ++ c.prefix;
+        parts = parts ∙ (ap (λ (v : List Tok). u1 ++ v) c.parts ∙ sym (append_assoc u1 c.prefix b.1));
+        viable = after_viable c.prefix (next b.1) hd c.viable;
+        word = after_word c.prefix (next b.1) b.0 hd c.word;
+        stops = λ e w. c.stops (d + e) (after_prefix e (d + e) (omega arith) (omega arith) c.prefix (next b.1) hd w);
       }
-  after ts rest (Err (Deep rest2)) parts hd c =
-      let hd : h ≡ before c.front (next rest2) = hd ∙ (ap next c.parts ∙ next-append c.front rest2) in
+  after ts rest (Err (TooDeep rest2)) parts hd c =
+      let hd : h ≡ before c.prefix (next rest2) = hd ∙ (ap next c.parts ∙ next-append c.prefix rest2) in
       record {
-        front = u1 ++ c.front;
-        parts = parts ∙ (ap (λ (v : List Tok). u1 ++ v) c.parts ∙ sym (append_assoc u1 c.front rest2));
-        viable = after_viable c.front (next rest2) hd c.viable;
-        shut = λ w. c.shut (after_front d d (omega arith) (omega arith) c.front (next rest2) hd w);
-        deeper = (d + c.deeper.0, after_deeper c.deeper.0 (d + c.deeper.0) (omega arith) (omega arith) c.front (next rest2) hd c.deeper.1);
+        prefix = u1 ++ c.prefix;
+        parts = parts ∙ (ap (λ (v : List Tok). u1 ++ v) c.parts ∙ sym (append_assoc u1 c.prefix rest2));
+        viable = after_viable c.prefix (next rest2) hd c.viable;
+        shut = λ w. c.shut (after_prefix d d (omega arith) (omega arith) c.prefix (next rest2) hd w);
+        deeper = (d + c.deeper.0, after_deeper c.deeper.0 (d + c.deeper.0) (omega arith) (omega arith) c.prefix (next rest2) hd c.deeper.1);
       }
-  after ts rest (Err (Odd rest2)) parts hd c =
-      let hd : h ≡ before c.front (next rest2) = hd ∙ (ap next c.parts ∙ next-append c.front rest2) in
+  after ts rest (Err (Unexpected rest2)) parts hd c =
+      let hd : h ≡ before c.prefix (next rest2) = hd ∙ (ap next c.parts ∙ next-append c.prefix rest2) in
       record {
-        front = u1 ++ c.front;
-        parts = parts ∙ (ap (λ (v : List Tok). u1 ++ v) c.parts ∙ sym (append_assoc u1 c.front rest2));
-        viable = after_viable c.front (next rest2) hd c.viable;
-        no_text = λ e b w. c.no_text (d + e) b (after_text e c.front (next rest2) b hd w);
-        stops = λ e w. c.stops (d + e) (after_front e (d + e) (omega arith) (omega arith) c.front (next rest2) hd w);
+        prefix = u1 ++ c.prefix;
+        parts = parts ∙ (ap (λ (v : List Tok). u1 ++ v) c.parts ∙ sym (append_assoc u1 c.prefix rest2));
+        viable = after_viable c.prefix (next rest2) hd c.viable;
+        no_text = λ e b w. c.no_text (d + e) b (after_text e c.prefix (next rest2) b hd w);
+        stops = λ e w. c.stops (d + e) (after_prefix e (d + e) (omega arith) (omega arith) c.prefix (next rest2) hd w);
       }
 
 pub seq_answer : {A B : Type 0} (l : ℕ → Lang A) (m : A → ℕ → Lang B) (i j : Info) (on1 : ℕ → Bool) (on2 : A → ℕ → Bool) (on : ℕ → Bool) → Parts l m i j on1 on2 on
     → (d : ℕ) → on d ≡ true → (ts : List Tok) (out : Out A) (q : A × List Tok → Out B) → Answer l d ts out → ((x : A) (rest : List Tok) → on2 x d ≡ true → Reads l d ts x rest → Answer (m x) d rest (q (x, rest)))
     → Answer (Seq l m) d ts (out >>= q)
-seq_answer l m i j on1 on2 on p d is_on ts (Err (Deep rest)) q a g = record {
-  front = a.front;
+seq_answer l m i j on1 on2 on p d is_on ts (Err (TooDeep rest)) q a g = record {
+  prefix = a.prefix;
   parts = a.parts;
-  viable = open_seq l m j on2 p.right d (p.up d is_on).1 a.front a.viable;
-  shut = blocked l m i j on1 on2 on p d d a.front (next rest) a.viable a.shut (λ x one has.
+  viable = open_seq l m j on2 p.right d (p.up d is_on).1 a.prefix a.viable;
+  shut = blocked l m i j on1 on2 on p d d a.prefix (next rest) a.viable a.shut (λ x one has.
       let k = d + a.deeper.0 in
       apart (next rest).code i.cont j.first p.apart_
-      ((p.left.facts k).goes_on x a.front (next rest) (p.left.mono d k (omega arith) x a.front (next rest) one) (front_mono l i on1 p.left a.deeper.0 k (omega arith) (a.front ++ next rest ∷ []) (front_open (l a.deeper.0) (a.front ++ next rest ∷ []) a.deeper.1)))
+      ((p.left.facts k).goes_on x a.prefix (next rest) (p.left.mono d k (omega arith) x a.prefix (next rest) one) (prefix_mono l i on1 p.left a.deeper.0 k (omega arith) (a.prefix ++ next rest ∷ []) (prefix_open (l a.deeper.0) (a.prefix ++ next rest ∷ []) a.deeper.1)))
       has);
   deeper =
       let k = p.both_high a.deeper.0 in
-      (k.0, open_seq l m j on2 p.right k.0 (p.up k.0 k.2).1 (a.front ++ next rest ∷ []) (open_mono l i on1 p.left a.deeper.0 k.0 k.1 (a.front ++ next rest ∷ []) a.deeper.1));
+      (k.0, open_seq l m j on2 p.right k.0 (p.up k.0 k.2).1 (a.prefix ++ next rest ∷ []) (open_mono l i on1 p.left a.deeper.0 k.0 k.1 (a.prefix ++ next rest ∷ []) a.deeper.1));
 }
-seq_answer l m i j on1 on2 on p d is_on ts (Err (Odd rest)) q a g = record {
-  front = a.front;
+seq_answer l m i j on1 on2 on p d is_on ts (Err (Unexpected rest)) q a g = record {
+  prefix = a.prefix;
   parts = a.parts;
-  viable = open_seq l m j on2 p.right d (p.up d is_on).1 a.front a.viable;
-  no_text = λ e b w. ended l m i j on1 on2 on p d e a.front (next rest) a.viable (a.no_text e) b w;
-  stops = λ e. blocked l m i j on1 on2 on p d e a.front (next rest) a.viable (a.stops e) (λ x one has. a.no_text e x one);
+  viable = open_seq l m j on2 p.right d (p.up d is_on).1 a.prefix a.viable;
+  no_text = λ e b w. ended l m i j on1 on2 on p d e a.prefix (next rest) a.viable (a.no_text e) b w;
+  stops = λ e. blocked l m i j on1 on2 on p d e a.prefix (next rest) a.viable (a.stops e) (λ x one has. a.no_text e x one);
 }
 seq_answer l m i j on1 on2 on p d is_on ts (Ok x) q a g =
-    after l m i j on1 on2 on p d is_on x.0 a.front (next x.1) a.viable a.word a.stops ts x.1 (q x) a.parts refl (g x.0 x.1 ((p.up d is_on).1 x.0 a.front (next x.1) a.word) a)
+    after l m i j on1 on2 on p d is_on x.0 a.prefix (next x.1) a.viable a.word a.stops ts x.1 (q x) a.parts refl (g x.0 x.1 ((p.up d is_on).1 x.0 a.prefix (next x.1) a.word) a)
 
 -- ---- one token, no token
 
 pub one_answer : (ks : List ℕ) → mem 0 ks ≡ false → (d : ℕ) (ts : List Tok) → is_some_kind ks ≡ true → Answer (λ e. OneOf ks) d ts (one_of ks ts)
 one_answer ks nil d ts some = go ts
   where
-    front : (t : Tok) → Front (OneOf ks) (t ∷ []) → Has ks t
-    front t w = let e : t ≡ w.0 = let q = w.3.0 in cc in subst (Has ks) (sym e) w.3.1
+    prefix : (t : Tok) → Prefix (OneOf ks) (t ∷ []) → Has ks t
+    prefix t w = let e : t ≡ w.0 = let q = w.3.0 in cc in subst (Has ks) (sym e) w.3.1
 
-    two : (t n : Tok) → Front (OneOf ks) (t ∷ n ∷ []) → ⊥
+    two : (t n : Tok) → Prefix (OneOf ks) (t ∷ n ∷ []) → ⊥
     two t n w = let q = w.3.0 in absurd cc
 
-    odd : (r : List Tok) → mem (next r).code ks ≡ false → Unexpected (λ e. OneOf ks) d r r
-    odd r e = record { front = []; parts = refl; viable = (one_facts ks).live some; no_text = λ k a w. let q = w.0 in absurd cc; stops = λ k w. let has : mem (next r).code ks ≡ true = front (next r) w in absurd cc }
+    odd : (r : List Tok) → mem (next r).code ks ≡ false → IsUnexpected (λ e. OneOf ks) d r r
+    odd r e = record { prefix = []; parts = refl; viable = (one_facts ks).live some; no_text = λ k a w. let q = w.0 in absurd cc; stops = λ k w. let has : mem (next r).code ks ≡ true = prefix (next r) w in absurd cc }
 
-    pick : (t : Tok) (r : List Tok) (b : Bool) → mem t.code ks ≡ b → Answer (λ e. OneOf ks) d (t ∷ r) (cond b (Ok (t, r)) (Err (Odd (t ∷ r))))
-    pick t r true e = record { front = t ∷ []; parts = refl; viable = (t, [], λ n. (refl, e)); word = (refl, e); stops = λ k w. two t (next r) w }
+    pick : (t : Tok) (r : List Tok) (b : Bool) → mem t.code ks ≡ b → Answer (λ e. OneOf ks) d (t ∷ r) (cond b (Ok (t, r)) (Err (Unexpected (t ∷ r))))
+    pick t r true e = record { prefix = t ∷ []; parts = refl; viable = (t, [], λ n. (refl, e)); word = (refl, e); stops = λ k w. two t (next r) w }
     pick t r false e = odd (t ∷ r) e
 
     go : (r : List Tok) → Answer (λ e. OneOf ks) d r (one_of ks r)
@@ -278,7 +278,7 @@ pub one_begins : (ks : List ℕ) → Begins (λ e. OneOf ks) (one_info ks)
 one_begins ks t h = (0, (t, [], λ n. (refl, h)))
 
 pub return_answer : {A : Type 0} (a : A) (d : ℕ) (ts : List Tok) → Answer (λ e. Return a) d ts (Ok (a, ts))
-return_answer a d ts = record { front = []; parts = refl; viable = (a, [], λ n. (refl, refl)); word = (refl, refl); stops = λ e w. let q = w.3.1 in absurd cc }
+return_answer a d ts = record { prefix = []; parts = refl; viable = (a, [], λ n. (refl, refl)); word = (refl, refl); stops = λ e w. let q = w.3.1 in absurd cc }
 
 pub return_grammar : {A : Type 0} (a : A) → Grammar (λ e. Return a) return_info (λ e. true)
 return_grammar a = record { facts = λ d. return_facts a; mono = λ d e le b u n h. h; high = λ e. (e, omega arith, refl) }
@@ -291,24 +291,24 @@ pub record Same {A : Type 0} (l m : ℕ → Lang A) : Type 0 where
 
 pub same_answer : {A : Type 0} (l m : ℕ → Lang A) → Same l m → (d : ℕ) (ts : List Tok) (out : Out A) → Answer l d ts out → Answer m d ts out
 same_answer l m s d ts (Ok x) a = record {
-  front = a.front;
+  prefix = a.prefix;
   parts = a.parts;
-  viable = (a.viable.0, a.viable.1, λ n. s.to d a.viable.0 (a.front ++ a.viable.1) n (a.viable.2 n));
-  word = s.to d x.0 a.front (next x.1) a.word;
+  viable = (a.viable.0, a.viable.1, λ n. s.to d a.viable.0 (a.prefix ++ a.viable.1) n (a.viable.2 n));
+  word = s.to d x.0 a.prefix (next x.1) a.word;
   stops = λ e w. a.stops e (w.0, w.1, w.2, s.from e w.0 _ w.2 w.3);
 }
-same_answer l m s d ts (Err (Deep rest)) a = record {
-  front = a.front;
+same_answer l m s d ts (Err (TooDeep rest)) a = record {
+  prefix = a.prefix;
   parts = a.parts;
-  viable = (a.viable.0, a.viable.1, λ n. s.to d a.viable.0 (a.front ++ a.viable.1) n (a.viable.2 n));
+  viable = (a.viable.0, a.viable.1, λ n. s.to d a.viable.0 (a.prefix ++ a.viable.1) n (a.viable.2 n));
   shut = λ w. a.shut (w.0, w.1, w.2, s.from d w.0 _ w.2 w.3);
   deeper = (a.deeper.0, (a.deeper.1.0, a.deeper.1.1, λ n. s.to a.deeper.0 a.deeper.1.0 _ n (a.deeper.1.2 n)));
 }
-same_answer l m s d ts (Err (Odd rest)) a = record {
-  front = a.front;
+same_answer l m s d ts (Err (Unexpected rest)) a = record {
+  prefix = a.prefix;
   parts = a.parts;
-  viable = (a.viable.0, a.viable.1, λ n. s.to d a.viable.0 (a.front ++ a.viable.1) n (a.viable.2 n));
-  no_text = λ e b w. a.no_text e b (s.from e b a.front (next rest) w);
+  viable = (a.viable.0, a.viable.1, λ n. s.to d a.viable.0 (a.prefix ++ a.viable.1) n (a.viable.2 n));
+  no_text = λ e b w. a.no_text e b (s.from e b a.prefix (next rest) w);
   stops = λ e w. a.stops e (w.0, w.1, w.2, s.from e w.0 _ w.2 w.3);
 }
 
@@ -326,18 +326,18 @@ same_facts L M i on to from f = record {
 -- ---- one deeper
 
 pub shift_answer : {A : Type 0} (l : ℕ → Lang A) (d : ℕ) (ts : List Tok) (out : Out A) → Answer l d ts out → Answer (Below l) (suc d) ts out
-shift_answer l d ts (Ok x) a = record { front = a.front; parts = a.parts; viable = a.viable; word = a.word; stops = stops }
+shift_answer l d ts (Ok x) a = record { prefix = a.prefix; parts = a.parts; viable = a.viable; word = a.word; stops = stops }
   where
-    stops : (e : ℕ) → Front (Below l e) (a.front ++ next x.1 ∷ []) → ⊥
+    stops : (e : ℕ) → Prefix (Below l e) (a.prefix ++ next x.1 ∷ []) → ⊥
     stops zero w = w.3
     stops (suc e) w = a.stops e w
-shift_answer l d ts (Err (Deep rest)) a = record { front = a.front; parts = a.parts; viable = a.viable; shut = a.shut; deeper = (suc a.deeper.0, a.deeper.1) }
-shift_answer l d ts (Err (Odd rest)) a = record { front = a.front; parts = a.parts; viable = a.viable; no_text = no_text; stops = stops }
+shift_answer l d ts (Err (TooDeep rest)) a = record { prefix = a.prefix; parts = a.parts; viable = a.viable; shut = a.shut; deeper = (suc a.deeper.0, a.deeper.1) }
+shift_answer l d ts (Err (Unexpected rest)) a = record { prefix = a.prefix; parts = a.parts; viable = a.viable; no_text = no_text; stops = stops }
   where
-    no_text : (e : ℕ) (b : _) → Below l e b a.front (next rest) → ⊥
+    no_text : (e : ℕ) (b : _) → Below l e b a.prefix (next rest) → ⊥
     no_text zero b w = w
     no_text (suc e) b w = a.no_text e b w
 
-    stops : (e : ℕ) → Front (Below l e) (a.front ++ next rest ∷ []) → ⊥
+    stops : (e : ℕ) → Prefix (Below l e) (a.prefix ++ next rest ∷ []) → ⊥
     stops zero w = w.3
     stops (suc e) w = a.stops e w

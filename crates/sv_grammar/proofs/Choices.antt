@@ -1,10 +1,10 @@
 -- Readers of one text or another, of one where the budget allows it, and of one or nothing.
 use Rattle.std.proofs.Common.{◌≡◌, ℕ, ◌≤◌, Bool, true, false, cond, ◌&&◌, ◌||◌, List, [], ◌∷◌, ◌++◌, Ok, Err, ◌⊎◌, inl, inr, refl, sym, ap, subst, ◌∙◌}
 use Rattle.sv_grammar.specs.Info.{Info, or_info, unless_info}
-use Rattle.sv_grammar.specs.Language.{Lang, Or, Only, Unless, Open, Front, Deep, Odd, TooDeep, Unexpected, Out, Answer}
+use Rattle.sv_grammar.specs.Language.{Lang, Or, Only, Unless, Open, Prefix, TooDeep, Unexpected, IsTooDeep, IsUnexpected, Out, Answer}
 use Rattle.sv_grammar.specs.Reading.{either, maybe}
 use Rattle.sv_grammar.specs.Tokens.{Tok, next, mem, disjoint, Has}
-use Rattle.sv_grammar.proofs.Answers.{Grammar, Begins, no_true, or_left, open_mono, front_open, or_else, both_true}
+use Rattle.sv_grammar.proofs.Answers.{Grammar, Begins, no_true, or_left, open_mono, prefix_open, or_else, both_true}
 use Rattle.sv_grammar.proofs.Facts.{Facts, or_facts, only_facts, unless_facts}
 use Rattle.sv_grammar.proofs.Lists.{mem-append, apart}
 
@@ -40,9 +40,9 @@ either_begins l m i j b c t h = elim (mem-append t.code i.first j.first h) [
 ]
 
 -- a text that begins so begins with the next token
-front_starts : {A : Type 0} (L : Lang A) (i : Info) (on : Bool) → Facts L i on → (ts u rest : List Tok) → ts ≡ u ++ rest → Front L (u ++ next rest ∷ []) → Has i.first (next ts)
-front_starts L i on f ts [] rest q w = rw q (f.starts w.0 (next rest) w.1 w.2 w.3)
-front_starts L i on f ts (k ∷ u) rest q w = rw q (f.starts w.0 k ((u ++ next rest ∷ []) ++ w.1) w.2 w.3)
+prefix_starts : {A : Type 0} (L : Lang A) (i : Info) (on : Bool) → Facts L i on → (ts u rest : List Tok) → ts ≡ u ++ rest → Prefix L (u ++ next rest ∷ []) → Has i.first (next ts)
+prefix_starts L i on f ts [] rest q w = rw q (f.starts w.0 (next rest) w.1 w.2 w.3)
+prefix_starts L i on f ts (k ∷ u) rest q w = rw q (f.starts w.0 k ((u ++ next rest ∷ []) ++ w.1) w.2 w.3)
 
 -- a text that ends there begins with the next token, or is empty
 text_starts : {A : Type 0} (L : Lang A) (i : Info) (on : Bool) → Facts L i on → (ts u rest : List Tok) (a : A) → ts ≡ u ++ rest → L a u (next rest) → (Has i.first (next ts)) ⊎ ((u ≡ []) × (i.null ≡ true))
@@ -53,87 +53,87 @@ module _ {A : Type 0} (l m : ℕ → Lang A) (i j : Info) (on1 on2 : ℕ → Boo
   -- only the first begins so
   take_left : Has i.first (next ts) → (out : Out A) → Answer l d ts out → Answer (Either l m) d ts out
   take_left has (Ok x) a = record {
-    front = a.front;
+    prefix = a.prefix;
     parts = a.parts;
     viable = (a.viable.0, a.viable.1, λ n. inl (a.viable.2 n));
     word = inl a.word;
     stops = λ e w. elim w.3 [
       | inl q ↦ a.stops e (w.0, w.1, w.2, q)
-      | inr q ↦ apart (next ts).code i.first j.first p.apart_ has (front_starts (m e) j (on2 e) (p.right.facts e) ts a.front x.1 a.parts (w.0, w.1, w.2, q))
+      | inr q ↦ apart (next ts).code i.first j.first p.apart_ has (prefix_starts (m e) j (on2 e) (p.right.facts e) ts a.prefix x.1 a.parts (w.0, w.1, w.2, q))
     ];
   }
-  take_left has (Err (Deep rest)) a = record {
-    front = a.front;
+  take_left has (Err (TooDeep rest)) a = record {
+    prefix = a.prefix;
     parts = a.parts;
     viable = (a.viable.0, a.viable.1, λ n. inl (a.viable.2 n));
     shut = λ w. elim w.3 [
       | inl q ↦ a.shut (w.0, w.1, w.2, q)
-      | inr q ↦ apart (next ts).code i.first j.first p.apart_ has (front_starts (m d) j (on2 d) (p.right.facts d) ts a.front rest a.parts (w.0, w.1, w.2, q))
+      | inr q ↦ apart (next ts).code i.first j.first p.apart_ has (prefix_starts (m d) j (on2 d) (p.right.facts d) ts a.prefix rest a.parts (w.0, w.1, w.2, q))
     ];
     deeper = (a.deeper.0, (a.deeper.1.0, a.deeper.1.1, λ n. inl (a.deeper.1.2 n)));
   }
-  take_left has (Err (Odd rest)) a = record {
-    front = a.front;
+  take_left has (Err (Unexpected rest)) a = record {
+    prefix = a.prefix;
     parts = a.parts;
     viable = (a.viable.0, a.viable.1, λ n. inl (a.viable.2 n));
     no_text = λ e b w. elim w [
       | inl q ↦ a.no_text e b q
-      | inr q ↦ elim (text_starts (m e) j (on2 e) (p.right.facts e) ts a.front rest b a.parts q) [
+      | inr q ↦ elim (text_starts (m e) j (on2 e) (p.right.facts e) ts a.prefix rest b a.parts q) [
         | inl h ↦ apart (next ts).code i.first j.first p.apart_ has h
         | inr h ↦ (
             let o = p.begins1 (next ts) has in
             let e : next ts ≡ next rest = ap next (a.parts ∙ ap (λ (v : List Tok). v ++ rest) h.0) in
-            a.stops o.0 (front_open (l o.0) (a.front ++ next rest ∷ []) (subst (λ (v : List Tok). Open (l o.0) (v ++ next rest ∷ [])) (sym h.0) (subst (λ (t : Tok). Open (l o.0) (t ∷ [])) e o.1))))
+            a.stops o.0 (prefix_open (l o.0) (a.prefix ++ next rest ∷ []) (subst (λ (v : List Tok). Open (l o.0) (v ++ next rest ∷ [])) (sym h.0) (subst (λ (t : Tok). Open (l o.0) (t ∷ [])) e o.1))))
       ]
     ];
     stops = λ e w. elim w.3 [
       | inl q ↦ a.stops e (w.0, w.1, w.2, q)
-      | inr q ↦ apart (next ts).code i.first j.first p.apart_ has (front_starts (m e) j (on2 e) (p.right.facts e) ts a.front rest a.parts (w.0, w.1, w.2, q))
+      | inr q ↦ apart (next ts).code i.first j.first p.apart_ has (prefix_starts (m e) j (on2 e) (p.right.facts e) ts a.prefix rest a.parts (w.0, w.1, w.2, q))
     ];
   }
 
   -- the first does not begin so
   take_right : mem (next ts).code i.first ≡ false → (out : Out A) → Answer m d ts out → Answer (Either l m) d ts out
   take_right has (Ok x) a = record {
-    front = a.front;
+    prefix = a.prefix;
     parts = a.parts;
     viable = (a.viable.0, a.viable.1, λ n. inr (a.viable.2 n));
     word = inr a.word;
     stops = λ e w. elim w.3 [
       | inr q ↦ a.stops e (w.0, w.1, w.2, q)
-      | inl q ↦ no_true _ (front_starts (l e) i (on1 e) (p.left.facts e) ts a.front x.1 a.parts (w.0, w.1, w.2, q)) has
+      | inl q ↦ no_true _ (prefix_starts (l e) i (on1 e) (p.left.facts e) ts a.prefix x.1 a.parts (w.0, w.1, w.2, q)) has
     ];
   }
-  take_right has (Err (Deep rest)) a = record {
-    front = a.front;
+  take_right has (Err (TooDeep rest)) a = record {
+    prefix = a.prefix;
     parts = a.parts;
     viable = (a.viable.0, a.viable.1, λ n. inr (a.viable.2 n));
     shut = λ w. elim w.3 [
       | inr q ↦ a.shut (w.0, w.1, w.2, q)
-      | inl q ↦ no_true _ (front_starts (l d) i (on1 d) (p.left.facts d) ts a.front rest a.parts (w.0, w.1, w.2, q)) has
+      | inl q ↦ no_true _ (prefix_starts (l d) i (on1 d) (p.left.facts d) ts a.prefix rest a.parts (w.0, w.1, w.2, q)) has
     ];
     deeper = (a.deeper.0, (a.deeper.1.0, a.deeper.1.1, λ n. inr (a.deeper.1.2 n)));
   }
-  take_right has (Err (Odd rest)) a = record {
-    front = a.front;
+  take_right has (Err (Unexpected rest)) a = record {
+    prefix = a.prefix;
     parts = a.parts;
     viable = (a.viable.0, a.viable.1, λ n. inr (a.viable.2 n));
     no_text = λ e b w. elim w [
       | inr q ↦ a.no_text e b q
-      | inl q ↦ elim (text_starts (l e) i (on1 e) (p.left.facts e) ts a.front rest b a.parts q) [
+      | inl q ↦ elim (text_starts (l e) i (on1 e) (p.left.facts e) ts a.prefix rest b a.parts q) [
         | inl h ↦ no_true _ h has
         | inr h ↦ no_true _ h.1 p.full
       ]
     ];
     stops = λ e w. elim w.3 [
       | inr q ↦ a.stops e (w.0, w.1, w.2, q)
-      | inl q ↦ no_true _ (front_starts (l e) i (on1 e) (p.left.facts e) ts a.front rest a.parts (w.0, w.1, w.2, q)) has
+      | inl q ↦ no_true _ (prefix_starts (l e) i (on1 e) (p.left.facts e) ts a.prefix rest a.parts (w.0, w.1, w.2, q)) has
     ];
   }
 
-  left_deep : Has i.first (next ts) → on1 d ≡ false → (on1 d || on2 d) ≡ true → TooDeep (Either l m) d ts ts
+  left_deep : Has i.first (next ts) → on1 d ≡ false → (on1 d || on2 d) ≡ true → IsTooDeep (Either l m) d ts ts
   left_deep has off is_on = record {
-    front = [];
+    prefix = [];
     parts = refl;
     viable = (let o = (p.right.facts d).live (or_else (on1 d) (on2 d) is_on off) in (o.0, o.1, λ n. inr (o.2 n)));
     shut = λ w. elim w.3 [
@@ -150,9 +150,9 @@ module _ {A : Type 0} (l m : ℕ → Lang A) (i j : Info) (on1 on2 : ℕ → Boo
       go true e = let o = (p.left.facts d).live e in (o.0, o.1, λ n. inl (o.2 n))
       go false e = absurd (no_true _ (or_else (on1 d) (on2 d) is_on e) off)
 
-  right_deep : mem (next ts).code i.first ≡ false → Has j.first (next ts) → on2 d ≡ false → (on1 d || on2 d) ≡ true → TooDeep (Either l m) d ts ts
+  right_deep : mem (next ts).code i.first ≡ false → Has j.first (next ts) → on2 d ≡ false → (on1 d || on2 d) ≡ true → IsTooDeep (Either l m) d ts ts
   right_deep not_left has off is_on = record {
-    front = [];
+    prefix = [];
     parts = refl;
     viable = viable_left off is_on;
     shut = λ w. elim w.3 [
@@ -162,9 +162,9 @@ module _ {A : Type 0} (l m : ℕ → Lang A) (i j : Info) (on1 on2 : ℕ → Boo
     deeper = (let o = p.begins2 (next ts) has in (o.0, (o.1.0, o.1.1, λ n. inr (o.1.2 n))));
   }
 
-  neither : mem (next ts).code i.first ≡ false → mem (next ts).code j.first ≡ false → on2 d ≡ false → (on1 d || on2 d) ≡ true → Unexpected (Either l m) d ts ts
+  neither : mem (next ts).code i.first ≡ false → mem (next ts).code j.first ≡ false → on2 d ≡ false → (on1 d || on2 d) ≡ true → IsUnexpected (Either l m) d ts ts
   neither not_left not_right off is_on = record {
-    front = [];
+    prefix = [];
     parts = refl;
     viable = viable_left off is_on;
     no_text = λ e b w. elim w [
@@ -180,19 +180,19 @@ module _ {A : Type 0} (l m : ℕ → Lang A) (i j : Info) (on1 on2 : ℕ → Boo
   pub either_answer : (p1 p2 : List Tok → Out A) → (on1 d || on2 d) ≡ true → (on1 d ≡ true → Answer l d ts (p1 ts)) → (on2 d ≡ true → Answer m d ts (p2 ts)) → Answer (Either l m) d ts (either i.first (on1 d) p1 j.first (on2 d) p2 ts)
   either_answer p1 p2 is_on a1 a2 = go (mem (next ts).code i.first) refl
     where
-      inner : (b : Bool) → on1 d ≡ b → Has i.first (next ts) → Answer (Either l m) d ts (cond b (p1 ts) (Err (Deep ts)))
+      inner : (b : Bool) → on1 d ≡ b → Has i.first (next ts) → Answer (Either l m) d ts (cond b (p1 ts) (Err (TooDeep ts)))
       inner true e has = take_left has (p1 ts) (a1 e)
       inner false e has = left_deep has e is_on
 
-      last : (b : Bool) → mem (next ts).code j.first ≡ b → mem (next ts).code i.first ≡ false → on2 d ≡ false → Answer (Either l m) d ts (cond b (Err (Deep ts)) (Err (Odd ts)))
+      last : (b : Bool) → mem (next ts).code j.first ≡ b → mem (next ts).code i.first ≡ false → on2 d ≡ false → Answer (Either l m) d ts (cond b (Err (TooDeep ts)) (Err (Unexpected ts)))
       last true e not_left off = right_deep not_left e off is_on
       last false e not_left off = neither not_left e off is_on
 
-      right : (b : Bool) → on2 d ≡ b → mem (next ts).code i.first ≡ false → Answer (Either l m) d ts (cond b (p2 ts) (cond (mem (next ts).code j.first) (Err (Deep ts)) (Err (Odd ts))))
+      right : (b : Bool) → on2 d ≡ b → mem (next ts).code i.first ≡ false → Answer (Either l m) d ts (cond b (p2 ts) (cond (mem (next ts).code j.first) (Err (TooDeep ts)) (Err (Unexpected ts))))
       right true e not_left = take_right not_left (p2 ts) (a2 e)
       right false e not_left = last (mem (next ts).code j.first) refl not_left e
 
-      go : (b : Bool) → mem (next ts).code i.first ≡ b → Answer (Either l m) d ts (cond b (cond (on1 d) (p1 ts) (Err (Deep ts))) (cond (on2 d) (p2 ts) (cond (mem (next ts).code j.first) (Err (Deep ts)) (Err (Odd ts)))))
+      go : (b : Bool) → mem (next ts).code i.first ≡ b → Answer (Either l m) d ts (cond b (cond (on1 d) (p1 ts) (Err (TooDeep ts))) (cond (on2 d) (p2 ts) (cond (mem (next ts).code j.first) (Err (TooDeep ts)) (Err (Unexpected ts)))))
       go true e = inner (on1 d) refl e
       go false e = right (on2 d) refl e
 
@@ -217,21 +217,21 @@ when_begins c l i on r g b t h = let o = b t h in let k = r.high o.0 in let o2 =
 
 pub when_answer : {A : Type 0} (c : ℕ → Bool) (l : ℕ → Lang A) (i : Info) (on : ℕ → Bool) → Rises c on → Grammar l i on → (d : ℕ) (ts : List Tok) (out : Out A) → c d ≡ true → Answer l d ts out → Answer (When c l) d ts out
 when_answer c l i on r g d ts (Ok x) is a = record {
-  front = a.front;
+  prefix = a.prefix;
   parts = a.parts;
   viable = (a.viable.0, a.viable.1, λ n. (is, a.viable.2 n));
   word = (is, a.word);
   stops = λ e w. a.stops e (w.0, w.1, w.2, w.3.1);
 }
-when_answer c l i on r g d ts (Err (Deep rest)) is a = record {
-  front = a.front;
+when_answer c l i on r g d ts (Err (TooDeep rest)) is a = record {
+  prefix = a.prefix;
   parts = a.parts;
   viable = (a.viable.0, a.viable.1, λ n. (is, a.viable.2 n));
   shut = λ w. a.shut (w.0, w.1, w.2, w.3.1);
-  deeper = (let k = r.high a.deeper.0 in let o = open_mono l i on g a.deeper.0 k.0 k.1 (a.front ++ next rest ∷ []) a.deeper.1 in (k.0, (o.0, o.1, λ n. (k.2, o.2 n))));
+  deeper = (let k = r.high a.deeper.0 in let o = open_mono l i on g a.deeper.0 k.0 k.1 (a.prefix ++ next rest ∷ []) a.deeper.1 in (k.0, (o.0, o.1, λ n. (k.2, o.2 n))));
 }
-when_answer c l i on r g d ts (Err (Odd rest)) is a = record {
-  front = a.front;
+when_answer c l i on r g d ts (Err (Unexpected rest)) is a = record {
+  prefix = a.prefix;
   parts = a.parts;
   viable = (a.viable.0, a.viable.1, λ n. (is, a.viable.2 n));
   no_text = λ e b w. a.no_text e b w.1;
@@ -264,7 +264,7 @@ optional_answer {A = A} none l i on rises full g d is ts p a = go (mem (next ts)
     no_none : (u rest : List Tok) → Has i.first (next ts) → ts ≡ u ++ rest → u ≡ [] → mem (next rest).code i.first ≡ false → ⊥
     no_none u rest has q e f = let r : ts ≡ rest = q ∙ ap (λ (v : List Tok). v ++ rest) e in no_true _ has (subst (λ (v : List Tok). mem (next v).code i.first ≡ false) (sym r) f)
 
-    grown : (e : ℕ) (u : List Tok) (t : Tok) → Front (Optional on i.first none l e) (u ++ t ∷ []) → Front (l e) (u ++ t ∷ [])
+    grown : (e : ℕ) (u : List Tok) (t : Tok) → Prefix (Optional on i.first none l e) (u ++ t ∷ []) → Prefix (l e) (u ++ t ∷ [])
     grown e u t w = elim w.3.1 [
       | inl q ↦ absurd (none_ u q.1)
       | inr q ↦ (w.0, w.1, w.2, q)
@@ -276,34 +276,34 @@ optional_answer {A = A} none l i on rises full g d is ts p a = go (mem (next ts)
 
     lift : (out : Out A) → Has i.first (next ts) → Answer l d ts out → Answer (Optional on i.first none l) d ts out
     lift (Ok x) has a = record {
-      front = a.front;
+      prefix = a.prefix;
       parts = a.parts;
       viable = (a.viable.0, a.viable.1, λ n. (is, inr (a.viable.2 n)));
       word = (is, inr a.word);
-      stops = λ e w. a.stops e (grown e a.front (next x.1) w);
+      stops = λ e w. a.stops e (grown e a.prefix (next x.1) w);
     }
-    lift (Err (Deep rest)) has a = record {
-      front = a.front;
+    lift (Err (TooDeep rest)) has a = record {
+      prefix = a.prefix;
       parts = a.parts;
       viable = (a.viable.0, a.viable.1, λ n. (is, inr (a.viable.2 n)));
-      shut = λ w. a.shut (grown d a.front (next rest) w);
-      deeper = (let k = g.high a.deeper.0 in let o = open_mono l i on g a.deeper.0 k.0 k.1 (a.front ++ next rest ∷ []) a.deeper.1 in (k.0, (o.0, o.1, λ n. (k.2, inr (o.2 n)))));
+      shut = λ w. a.shut (grown d a.prefix (next rest) w);
+      deeper = (let k = g.high a.deeper.0 in let o = open_mono l i on g a.deeper.0 k.0 k.1 (a.prefix ++ next rest ∷ []) a.deeper.1 in (k.0, (o.0, o.1, λ n. (k.2, inr (o.2 n)))));
     }
-    lift (Err (Odd rest)) has a = record {
-      front = a.front;
+    lift (Err (Unexpected rest)) has a = record {
+      prefix = a.prefix;
       parts = a.parts;
       viable = (a.viable.0, a.viable.1, λ n. (is, inr (a.viable.2 n)));
       no_text = λ e b w. elim w.1 [
-        | inl q ↦ no_none a.front rest has a.parts q.1 q.2
+        | inl q ↦ no_none a.prefix rest has a.parts q.1 q.2
         | inr q ↦ a.no_text e b q
       ];
-      stops = λ e w. a.stops e (grown e a.front (next rest) w);
+      stops = λ e w. a.stops e (grown e a.prefix (next rest) w);
     }
 
     go : (b : Bool) → mem (next ts).code i.first ≡ b → Answer (Optional on i.first none l) d ts (cond b (p ts) (Ok (none, ts)))
     go true has = lift (p ts) has a
     go false has = record {
-      front = [];
+      prefix = [];
       parts = refl;
       viable = (let o = (g.facts d).live is in (o.0, o.1, λ n. (is, inr (o.2 n))));
       word = (is, inl (refl, refl, has));

@@ -3,26 +3,26 @@ use Rattle.std.proofs.Common.{◌≡◌, ℕ, Bool, true, false, cond, ◌&&◌,
 use Rattle.std.proofs.lemmas.List.{append-nil}
 use Rattle.sv_grammar.specs.Tokens.{Tok, blank, before, mem, disjoint, Has}
 use Rattle.sv_grammar.specs.Info.{Info, then_info, return_info, one_info, or_info, unless_info, run_info, is_some_kind}
-use Rattle.sv_grammar.specs.Language.{Lang, Then, OneOf, Return, Nothing, Or, Only, Unless, Run, Open, Front}
+use Rattle.sv_grammar.specs.Language.{Lang, Then, OneOf, Return, Nothing, Or, Only, Unless, Run, Open, Prefix}
 use Rattle.sv_grammar.proofs.Lists.{Meet, same, longer, shorter, meet, mem-left, mem-right, apart}
 
 -- on: whether there is a text at all
 pub record Facts {A : Type 0} (L : Lang A) (i : Info) (on : Bool) : Type 0 where
   pub starts : (a : A) (t : Tok) (u : List Tok) (n : Tok) → L a (t ∷ u) n → Has i.first t
   pub empty : (a : A) (n : Tok) → L a [] n → i.null ≡ true
-  pub goes_on : (a : A) (u : List Tok) (t : Tok) → L a u t → Front L (u ++ t ∷ []) → Has i.cont t
+  pub goes_on : (a : A) (u : List Tok) (t : Tok) → L a u t → Prefix L (u ++ t ∷ []) → Has i.cont t
   pub unique : (a b : A) (u : List Tok) (n : Tok) → L a u n → L b u n → a ≡ b
   pub live : on ≡ true → Open L []
   pub dead : (a : A) (u : List Tok) (n : Tok) → L a u n → on ≡ true
   pub skip : on ≡ true → i.null ≡ true → (t : Tok) → (Has i.first t → ⊥) → (a : A) × L a [] t
 
--- a text begins with each of its fronts
-pub front_of : {A : Type 0} (L : Lang A) (a : A) (x : List Tok) (h : Tok) (z : List Tok) (n : Tok) → L a (x ++ h ∷ z) n → Front L (x ++ h ∷ [])
-front_of L a x h z n w = (a, z, n, subst (λ (u : List Tok). L a u n) (sym (append_assoc x (h ∷ []) z)) w)
+-- a text begins with each of its prefixes
+pub prefix_of : {A : Type 0} (L : Lang A) (a : A) (x : List Tok) (h : Tok) (z : List Tok) (n : Tok) → L a (x ++ h ∷ z) n → Prefix L (x ++ h ∷ [])
+prefix_of L a x h z n w = (a, z, n, subst (λ (u : List Tok). L a u n) (sym (append_assoc x (h ∷ []) z)) w)
 
 -- a text that goes on past u with h, where u is a text before h
 pub past : {A : Type 0} (L : Lang A) (i : Info) (on : Bool) → Facts L i on → (a b : A) (u : List Tok) (h : Tok) (z : List Tok) (n : Tok) → L a u h → L b (u ++ h ∷ z) n → Has i.cont h
-past L i on f a b u h z n p q = f.goes_on a u h p (front_of L b u h z n q)
+past L i on f a b u h z n p q = f.goes_on a u h p (prefix_of L b u h z n q)
 
 -- ---- one after the other
 
@@ -32,13 +32,13 @@ Starts {A} {B} M j = (x : A) (b : B) (t : Tok) (u : List Tok) (n : Tok) → M x 
 
 pub cut : {A B : Type 0} (L : Lang A) (M : A → Lang B) (i j : Info) (on : Bool) → Facts L i on → Starts M j → disjoint i.cont j.first ≡ true
     → (x : A) (u : List Tok) (h : Tok) (b : B) (s : List Tok) (n : Tok)
-    → L x u h → before s n ≡ h → ((z : List Tok) → s ≡ h ∷ z → (Front L (u ++ h ∷ []) → ⊥) ⊎ (Has j.first h))
+    → L x u h → before s n ≡ h → ((z : List Tok) → s ≡ h ∷ z → (Prefix L (u ++ h ∷ []) → ⊥) ⊎ (Has j.first h))
     → Then L M b (u ++ s) n → M x b s n
 cut {A = A} L M i j on f g dis x u h b s n word is stop t = go (meet u s t.left t.right t.parts)
   where
     stops : (z y : List Tok) → s ≡ h ∷ y → L t.value (u ++ h ∷ z) (before t.right n) → ⊥
     stops z y e w = elim (stop y e) [
-      | inl shut ↦ shut (front_of L t.value u h z (before t.right n) w)
+      | inl shut ↦ shut (prefix_of L t.value u h z (before t.right n) w)
       | inr has ↦ apart h.code i.cont j.first dis (past L i on f x t.value u h z (before t.right n) word w) has
     ]
 
@@ -94,7 +94,7 @@ then_facts {A = A} {B = B} L M i j on1 on2 on f g dis up down = record {
     empty b n x [] (k ∷ r) p one two = absurd cc
     empty b n x (k ∷ l) r p one two = absurd cc
 
-    goes_on : (b : B) (u : List Tok) (t : Tok) → Front (Then L M) (u ++ t ∷ []) → (x : A) (l r : List Tok) → u ≡ l ++ r → L x l (before r t) → M x b r t → Has (then_info i j).cont t
+    goes_on : (b : B) (u : List Tok) (t : Tok) → Prefix (Then L M) (u ++ t ∷ []) → (x : A) (l r : List Tok) → u ≡ l ++ r → L x l (before r t) → M x b r t → Has (then_info i j).cont t
     goes_on b u t w x l [] p one two = go (mem t.code i.cont) refl
       where
         parts : (u ++ t ∷ []) ++ w.1 ≡ l ++ t ∷ w.1
@@ -192,7 +192,7 @@ or_facts {A = A} L M i j on1 on2 f g full dis always = record {
     unique a b (t ∷ u) n (inl p) (inr q) = absurd (clash a b u u n n t p q)
     unique a b (t ∷ u) n (inr p) (inl q) = absurd (clash b a u u n n t q p)
 
-    goes_on : (a : A) (u : List Tok) (t : Tok) → Or L M a u t → Front (Or L M) (u ++ t ∷ []) → Has (or_info i j).cont t
+    goes_on : (a : A) (u : List Tok) (t : Tok) → Or L M a u t → Prefix (Or L M) (u ++ t ∷ []) → Has (or_info i j).cont t
     goes_on a u t (inl p) w = go u p w.0 w.1 w.2 w.3
       where
         go : (u : List Tok) → L a u t → (b : A) (z : List Tok) (n : Tok) → Or L M b ((u ++ t ∷ []) ++ z) n → Has (or_info i j).cont t
@@ -272,7 +272,7 @@ After test step L s x p w n = (x ≡ p.0) × Run test step L (step s p.0) p.1 w 
 
 run_cut : {S A : Type 0} (test : S → Bool) (step : S → A → S) (L : S → Lang A) (i : Info) (on : S → Bool) → ((s : S) → Facts (L s) i (on s)) → i.null ≡ false → disjoint i.cont i.first ≡ true
     → (s : S) (x : A) (u : List Tok) (h : Tok) (b : A) (bs : List A) (w : List Tok) (n : Tok)
-    → L s x u h → before w n ≡ h → ((z : List Tok) → w ≡ h ∷ z → (Front (L s) (u ++ h ∷ []) → ⊥) ⊎ (Has i.first h))
+    → L s x u h → before w n ≡ h → ((z : List Tok) → w ≡ h ∷ z → (Prefix (L s) (u ++ h ∷ []) → ⊥) ⊎ (Has i.first h))
     → Run test step L s (b ∷ bs) (u ++ w) n → (x ≡ b) × Run test step L (step s b) bs w n
 run_cut test step L i on f full dis s x u h b bs w n word is stop m =
     cut (L s) (After test step L s) i i (on s) (f s) (λ y p t v k r. run_starts test step L i on f full (step s p.0) p.1 t v k r.1) dis x u h (b, bs) w n word is stop

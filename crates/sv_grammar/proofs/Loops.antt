@@ -47,7 +47,7 @@ module _ {S A : Type 0} (test : ℕ → S → Bool) (step : S → A → S) (l : 
   run_begins s b t h = let b = b t h in let k = p.high s b.0 in let o = open_mono (l s) (j s) (on s) (p.body s) b.0 k.0 k.1 (t ∷ []) b.1 in
       (k.0, (o.0 ∷ [], o.1, λ n. (k.2, t ∷ o.1, [], sym (append-nil (t ∷ o.1)), o.2 n, refl)))
 
-  -- a list with its front
+  -- a list with its prefix
   abbrev With : A → List A → ℕ → Lang (List A)
   With a bs e = Return (a ∷ bs)
 
@@ -124,7 +124,7 @@ module _ {S A : Type 0} (test : ℕ → S → Bool) (step : S → A → S) (l : 
       from d (x ∷ xs) u n w = inl (w.0, record { value = x; left = w.1; right = w.2; parts = w.3; one = w.4; two = record { value = xs; left = w.2; right = []; parts = sym (append-nil w.2); one = w.5; two = (refl, refl) } })
 
   shorter_rest : (s : S) (d : ℕ) (ts : List Tok) (a : A) (rest : List Tok) (f : ℕ) → Reads (l s) d ts a rest → length ts ≤ suc f → length rest ≤ f
-  shorter_rest s d ts a rest f r le = go r.front r.parts r.word
+  shorter_rest s d ts a rest f r le = go r.prefix r.parts r.word
     where
       go : (u : List Tok) → ts ≡ u ++ rest → l s d a u (next rest) → length rest ≤ f
       go [] q w = absurd (no_true _ ((p.facts d s).empty a (next rest) w) p.full)
@@ -141,7 +141,7 @@ module _ {S A : Type 0} (test : ℕ → S → Bool) (step : S → A → S) (l : 
 
   stop_here : (d : ℕ) (s : S) (ts : List Tok) → mem (next ts).code (j s).first ≡ false → Reads (Runs test step l s) d ts [] ts
   stop_here d s ts no_ = record {
-    front = [];
+    prefix = [];
     parts = refl;
     viable = ([], [], λ n. refl);
     word = refl;

@@ -3,7 +3,7 @@ use Rattle.std.proofs.Common.{◌≡◌, ℕ, zero, suc, ◌+◌, ◌≤◌, ◌
 use Rattle.std.proofs.lemmas.List.{length-append, append-nil}
 use Rattle.sv_grammar.specs.Tokens.{Tok, next, mem, disjoint, Has}
 use Rattle.sv_grammar.specs.Info.{Info}
-use Rattle.sv_grammar.specs.Language.{Miss, Deep, Out, Answer}
+use Rattle.sv_grammar.specs.Language.{Miss, TooDeep, Out, Answer}
 use Rattle.sv_grammar.specs.Reading.{◌>>=◌, run_upto}
 use Rattle.sv_grammar.specs.Code.{Code, info, least, texts, read, fine, below, readers, reach, fold_left, no, chain_from, list_from, items_from, pick, subset}
 use Rattle.sv_grammar.specs.Code.Code.{Chain, Rep, Items}
@@ -31,7 +31,7 @@ module _ {S A : Type 0} (first : S → List ℕ) (on test : S → Bool) (step : 
   run_fuel (suc f) (suc g) s ts lf lg = go (mem (next ts).code (first s)) (test s && on s) refl (p s ts) refl (λ x h. run_fuel f g (step s x.0) x.1 (let k = h in omega arith) (let k = h in omega arith))
     where
       go : (b c : Bool) → (test s && on s) ≡ c → (out : Out A) → p s ts ≡ out → ((x : A × List Tok) → length x.1 < length ts → run f (step s x.0) x.1 ≡ run g (step s x.0) x.1)
-          → cond b (cond c (out >>= λ x. run f (step s x.0) x.1 >>= λ y. Ok (x.0 ∷ y.0, y.1)) (Err (Deep ts))) (Ok ([], ts)) ≡ cond b (cond c (out >>= λ x. run g (step s x.0) x.1 >>= λ y. Ok (x.0 ∷ y.0, y.1)) (Err (Deep ts))) (Ok ([], ts))
+          → cond b (cond c (out >>= λ x. run f (step s x.0) x.1 >>= λ y. Ok (x.0 ∷ y.0, y.1)) (Err (TooDeep ts))) (Ok ([], ts)) ≡ cond b (cond c (out >>= λ x. run g (step s x.0) x.1 >>= λ y. Ok (x.0 ∷ y.0, y.1)) (Err (TooDeep ts))) (Ok ([], ts))
       go false c e out q f' = refl
       go true false e out q f' = refl
       go true true e (Err m) q f' = refl
@@ -47,7 +47,7 @@ module _ {S A : Type 0} (first : S → List ℕ) (on test : S → Bool) (step : 
     total_stop s [] h = refl
     total_stop s (t ∷ ts) h = rw h refl
 
-    pub total_deep : (s : S) (t : Tok) (ts : List Tok) → Has (first s) t → (test s && on s) ≡ false → total s (t ∷ ts) ≡ Err (Deep (t ∷ ts))
+    pub total_deep : (s : S) (t : Tok) (ts : List Tok) → Has (first s) t → (test s && on s) ≡ false → total s (t ∷ ts) ≡ Err (TooDeep (t ∷ ts))
     unfolding total
     total_deep s t ts h g = rw (h, g) refl
 
@@ -73,7 +73,7 @@ module _ (N : Type 0) (V : N → Type 0) (heads : N → Info) (need : N → ℕ)
   code_shortens {A = A} c h full d ts x is e =
       let a = exact N V heads need table good c h d (reach-le (least N V heads need c) d is) ts in
       let r = subst (λ (out : Out A). Answer (λ k. texts N V heads need (below N V heads need table k) k c) d ts out) e a in
-      go r.front r.parts r.word
+      go r.prefix r.parts r.word
     where
       go : (u : List Tok) → ts ≡ u ++ x.1 → texts N V heads need (below N V heads need table d) d c x.0 u (next x.1) → length x.1 < length ts
       go [] q w = absurd (no_true (info N V heads need c).null (((grammar N V heads need table good c h).facts d).empty x.0 (next x.1) w) full)
@@ -102,7 +102,7 @@ module _ (N : Type 0) (V : N → Type 0) (heads : N → Info) (need : N → ℕ)
     unfolding chain_from total
     chain_stop a ts g = total_stop (λ s. (info N V heads need t).first) (λ s. reach (least N V heads need t) d) (λ s. reach (suc (depth s)) d) step (λ s. read N V heads need (readers N V heads need table d) d t) (λ s. link_nil) shortens_ (fold_left step) (λ s b bs. refl) a ts g
 
-    pub chain_deep : (a : A) (k : Tok) (ts : List Tok) → Has (info N V heads need t).first k → (reach (suc (depth a)) d && reach (least N V heads need t) d) ≡ false → chain_from N V heads need table depth step t d a (k ∷ ts) ≡ Err (Deep (k ∷ ts))
+    pub chain_deep : (a : A) (k : Tok) (ts : List Tok) → Has (info N V heads need t).first k → (reach (suc (depth a)) d && reach (least N V heads need t) d) ≡ false → chain_from N V heads need table depth step t d a (k ∷ ts) ≡ Err (TooDeep (k ∷ ts))
     unfolding chain_from total
     chain_deep a k ts g e = total_deep (λ s. (info N V heads need t).first) (λ s. reach (least N V heads need t) d) (λ s. reach (suc (depth s)) d) step (λ s. read N V heads need (readers N V heads need table d) d t) (λ s. link_nil) shortens_ (fold_left step) (λ s b bs. refl) a k ts g e
 
@@ -135,7 +135,7 @@ module _ (N : Type 0) (V : N → Type 0) (heads : N → Info) (need : N → ℕ)
     reading ts = read N V heads need (readers N V heads need table d) d c ts
 
     abbrev lists : List A → List Tok → Out (List A)
-    lists front ts = list_from N V heads need table c d front ts
+    lists prefix ts = list_from N V heads need table c d prefix ts
 
     pub list_is : (ts : List Tok) → read N V heads need (readers N V heads need table d) d (Rep c) ts ≡ lists [] ts
     unfolding list_from
@@ -145,29 +145,29 @@ module _ (N : Type 0) (V : N → Type 0) (heads : N → Info) (need : N → ℕ)
         whole (Ok x) = refl
         whole (Err m) = refl
 
-    pub list_stop : (front : List A) (ts : List Tok) → mem (next ts).code J.first ≡ false → lists front ts ≡ Ok (front, ts)
+    pub list_stop : (prefix : List A) (ts : List Tok) → mem (next ts).code J.first ≡ false → lists prefix ts ≡ Ok (prefix, ts)
     unfolding list_from
-    list_stop front [] g = ap (λ (xs : List A). Ok (xs, [])) (append-nil front)
-    list_stop front (t ∷ ts) g = rw g (ap (λ (xs : List A). Ok (xs, t ∷ ts)) (append-nil front))
+    list_stop prefix [] g = ap (λ (xs : List A). Ok (xs, [])) (append-nil prefix)
+    list_stop prefix (t ∷ ts) g = rw g (ap (λ (xs : List A). Ok (xs, t ∷ ts)) (append-nil prefix))
 
-    pub list_deep : (front : List A) (t : Tok) (ts : List Tok) → Has J.first t → reach (least N V heads need c) d ≡ false → lists front (t ∷ ts) ≡ Err (Deep (t ∷ ts))
+    pub list_deep : (prefix : List A) (t : Tok) (ts : List Tok) → Has J.first t → reach (least N V heads need c) d ≡ false → lists prefix (t ∷ ts) ≡ Err (TooDeep (t ∷ ts))
     unfolding list_from
-    list_deep front t ts g e = rw (g, e) refl
+    list_deep prefix t ts g e = rw (g, e) refl
 
-    pub list_fail : (front : List A) (t : Tok) (ts : List Tok) (m : Miss) → Has J.first t → reach (least N V heads need c) d ≡ true → reading (t ∷ ts) ≡ Err m → lists front (t ∷ ts) ≡ Err m
+    pub list_fail : (prefix : List A) (t : Tok) (ts : List Tok) (m : Miss) → Has J.first t → reach (least N V heads need c) d ≡ true → reading (t ∷ ts) ≡ Err m → lists prefix (t ∷ ts) ≡ Err m
     unfolding list_from
-    list_fail front t ts m g e q = rw (g, e, q) refl
+    list_fail prefix t ts m g e q = rw (g, e, q) refl
 
-    pub list_more : (front : List A) (t : Tok) (ts : List Tok) (y : A × List Tok) → Has J.first t → reach (least N V heads need c) d ≡ true → reading (t ∷ ts) ≡ Ok y → lists front (t ∷ ts) ≡ lists (front ++ y.0 ∷ []) y.1
+    pub list_more : (prefix : List A) (t : Tok) (ts : List Tok) (y : A × List Tok) → Has J.first t → reach (least N V heads need c) d ≡ true → reading (t ∷ ts) ≡ Ok y → lists prefix (t ∷ ts) ≡ lists (prefix ++ y.0 ∷ []) y.1
     unfolding list_from
-    list_more front t ts y g e q =
+    list_more prefix t ts y g e q =
         let lt : length y.1 < suc (length ts) = rep_short tt (t ∷ ts) y e q in
         let same_run : run_upto (length ts) (λ s. J.first) (λ s. reach (least N V heads need c) d) (λ (s : Unit {0}). true) (λ s x. s) (λ s. reading) tt y.1 ≡ run_upto (length y.1) (λ s. J.first) (λ s. reach (least N V heads need c) d) (λ (s : Unit {0}). true) (λ s x. s) (λ s. reading) tt y.1 =
         run_fuel (λ s. J.first) (λ s. reach (least N V heads need c) d) (λ (s : Unit {0}). true) (λ s x. s) (λ s. reading) (λ s. rep_nil) rep_short (length ts) (length y.1) tt y.1 (omega arith) (omega arith) in
         rw (g, q, same_run, e) (again _)
       where
-        again : (o : Out (List A)) → ((o >>= λ xs. Ok (y.0 ∷ xs.0, xs.1)) >>= λ xs. Ok (front ++ xs.0, xs.1)) ≡ (o >>= λ xs. Ok ((front ++ y.0 ∷ []) ++ xs.0, xs.1))
-        again (Ok x) = ap (λ (xs : List A). Ok (xs, x.1)) (sym (append_assoc front (y.0 ∷ []) x.0))
+        again : (o : Out (List A)) → ((o >>= λ xs. Ok (y.0 ∷ xs.0, xs.1)) >>= λ xs. Ok (prefix ++ xs.0, xs.1)) ≡ (o >>= λ xs. Ok ((prefix ++ y.0 ∷ []) ++ xs.0, xs.1))
+        again (Ok x) = ap (λ (xs : List A). Ok (xs, x.1)) (sym (append_assoc prefix (y.0 ∷ []) x.0))
         again (Err m) = refl
 
   module _ {A : Type 0} (late : A → Bool) (a b : Code N V A) (h : fine N V heads need (Items late a b) ≡ true) (d : ℕ) where
@@ -216,7 +216,7 @@ module _ (N : Type 0) (V : N → Type 0) (heads : N → Info) (need : N → ℕ)
     item_short false ts y is e = code_shortens a item_facts.fa (not_true JA.null item_facts.na) d ts y is e
 
     abbrev froms : Bool → List A → List Tok → Out (List A)
-    froms s front ts = items_from N V heads need table late a b d s front ts
+    froms s prefix ts = items_from N V heads need table late a b d s prefix ts
 
     abbrev go_on : ℕ → Bool → List Tok → Out (List A)
     go_on f s ts = run_upto f kinds able (λ s. true) (λ s x. s || late x) item s ts
@@ -229,27 +229,27 @@ module _ (N : Type 0) (V : N → Type 0) (heads : N → Info) (need : N → ℕ)
         whole (Ok x) = refl
         whole (Err m) = refl
 
-    pub items_stop : (s : Bool) (front : List A) (ts : List Tok) → mem (next ts).code (kinds s) ≡ false → froms s front ts ≡ Ok (front, ts)
+    pub items_stop : (s : Bool) (prefix : List A) (ts : List Tok) → mem (next ts).code (kinds s) ≡ false → froms s prefix ts ≡ Ok (prefix, ts)
     unfolding items_from
-    items_stop s front [] g = ap (λ (xs : List A). Ok (xs, [])) (append-nil front)
-    items_stop s front (t ∷ ts) g = rw g (ap (λ (xs : List A). Ok (xs, t ∷ ts)) (append-nil front))
+    items_stop s prefix [] g = ap (λ (xs : List A). Ok (xs, [])) (append-nil prefix)
+    items_stop s prefix (t ∷ ts) g = rw g (ap (λ (xs : List A). Ok (xs, t ∷ ts)) (append-nil prefix))
 
-    pub items_deep : (s : Bool) (front : List A) (t : Tok) (ts : List Tok) → Has (kinds s) t → able s ≡ false → froms s front (t ∷ ts) ≡ Err (Deep (t ∷ ts))
+    pub items_deep : (s : Bool) (prefix : List A) (t : Tok) (ts : List Tok) → Has (kinds s) t → able s ≡ false → froms s prefix (t ∷ ts) ≡ Err (TooDeep (t ∷ ts))
     unfolding items_from
-    items_deep s front t ts g e = rw (g, e) refl
+    items_deep s prefix t ts g e = rw (g, e) refl
 
-    pub items_fail : (s : Bool) (front : List A) (t : Tok) (ts : List Tok) (m : Miss) → Has (kinds s) t → able s ≡ true → item s (t ∷ ts) ≡ Err m → froms s front (t ∷ ts) ≡ Err m
+    pub items_fail : (s : Bool) (prefix : List A) (t : Tok) (ts : List Tok) (m : Miss) → Has (kinds s) t → able s ≡ true → item s (t ∷ ts) ≡ Err m → froms s prefix (t ∷ ts) ≡ Err m
     unfolding items_from
-    items_fail s front t ts m g e q = rw (g, e, q) refl
+    items_fail s prefix t ts m g e q = rw (g, e, q) refl
 
-    pub items_more : (s : Bool) (front : List A) (t : Tok) (ts : List Tok) (y : A × List Tok) → Has (kinds s) t → able s ≡ true → item s (t ∷ ts) ≡ Ok y → froms s front (t ∷ ts) ≡ froms (s || late y.0) (front ++ y.0 ∷ []) y.1
+    pub items_more : (s : Bool) (prefix : List A) (t : Tok) (ts : List Tok) (y : A × List Tok) → Has (kinds s) t → able s ≡ true → item s (t ∷ ts) ≡ Ok y → froms s prefix (t ∷ ts) ≡ froms (s || late y.0) (prefix ++ y.0 ∷ []) y.1
     unfolding items_from
-    items_more s front t ts y g e q =
+    items_more s prefix t ts y g e q =
         let lt : length y.1 < suc (length ts) = item_short s (t ∷ ts) y e q in
         let same_run : go_on (length ts) (s || late y.0) y.1 ≡ go_on (length y.1) (s || late y.0) y.1 =
         run_fuel kinds able (λ s. true) (λ s x. s || late x) item item_nil item_short (length ts) (length y.1) (s || late y.0) y.1 (omega arith) (omega arith) in
         rw (g, e, q, same_run) (again (go_on (length y.1) (s || late y.0) y.1))
       where
-        again : (o : Out (List A)) → ((o >>= λ xs. Ok (y.0 ∷ xs.0, xs.1)) >>= λ xs. Ok (front ++ xs.0, xs.1)) ≡ (o >>= λ xs. Ok ((front ++ y.0 ∷ []) ++ xs.0, xs.1))
-        again (Ok x) = ap (λ (xs : List A). Ok (xs, x.1)) (sym (append_assoc front (y.0 ∷ []) x.0))
+        again : (o : Out (List A)) → ((o >>= λ xs. Ok (y.0 ∷ xs.0, xs.1)) >>= λ xs. Ok (prefix ++ xs.0, xs.1)) ≡ (o >>= λ xs. Ok ((prefix ++ y.0 ∷ []) ++ xs.0, xs.1))
+        again (Ok x) = ap (λ (xs : List A). Ok (xs, x.1)) (sym (append_assoc prefix (y.0 ∷ []) x.0))
         again (Err m) = refl

@@ -2,7 +2,7 @@
 use Rattle.std.specs.Prelude.{ℕ, zero, suc, Bool, true, false, List, [], ◌∷◌, ◌++◌, length, Ok, Err, if◌then◌else◌, ◌&&◌, ◌||◌, ◌==◌}
 use Rattle.sv_grammar.specs.Tokens.{Tok, mem, disjoint}
 use Rattle.sv_grammar.specs.Info.{Info, then_info, return_info, one_info, or_info, unless_info, run_info, is_some_kind}
-use Rattle.sv_grammar.specs.Language.{Lang, Then, OneOf, Return, Nothing, Or, Only, Unless, Run, Out, Odd}
+use Rattle.sv_grammar.specs.Language.{Lang, Then, OneOf, Return, Nothing, Or, Only, Unless, Run, Out, Unexpected}
 use Rattle.sv_grammar.specs.Reading.{◌>>=◌, one_of, either, maybe, run_upto}
 
 -- N: the names of the productions that refer to one another. V n: the trees of n
@@ -166,19 +166,19 @@ module _ (N : Type 0) (V : N → Type 0) (heads : N → Info) (need : N → ℕ)
 
     -- the readers of each production, one deeper
     abbrev pub readers : ℕ → (n : N) → List Tok → Out (V n)
-    readers zero n ts = Err (Odd ts)
+    readers zero n ts = Err (Unexpected ts)
     readers (suc d) n ts = read (readers d) d (table n) ts
 
 -- what is read of a chain after a, and the tokens after it
 unfoldable pub chain_from : (N : Type 0) (V : N → Type 0) (heads : N → Info) (need : N → ℕ) (table : (n : N) → Code N V (V n)) {A T : Type 0} (depth : A → ℕ) (step : A → T → A) (t : Code N V T) (d : ℕ) → A → List Tok → Out A
 chain_from N V heads need table depth step t d a ts = run_upto (length ts) (λ s. (info N V heads need t).first) (λ s. reach (least N V heads need t) d) (λ s. reach (suc (depth s)) d) step (λ s. read N V heads need (readers N V heads need table d) d t) a ts >>= λ bs. Ok (fold_left step a bs.0, bs.1)
 
--- what is read of a list, after the items in front
+-- what is read of a list, after the items before
 unfoldable pub list_from : (N : Type 0) (V : N → Type 0) (heads : N → Info) (need : N → ℕ) (table : (n : N) → Code N V (V n)) {A : Type 0} (c : Code N V A) (d : ℕ) → List A → List Tok → Out (List A)
-list_from N V heads need table c d front ts = read N V heads need (readers N V heads need table d) d (Rep c) ts >>= λ xs. Ok (front ++ xs.0, xs.1)
+list_from N V heads need table c d prefix ts = read N V heads need (readers N V heads need table d) d (Rep c) ts >>= λ xs. Ok (prefix ++ xs.0, xs.1)
 
--- what is read of items, after those in front; s: whether one of these passed the test
+-- what is read of items, after those before; s: whether one of these passed the test
 unfoldable pub items_from : (N : Type 0) (V : N → Type 0) (heads : N → Info) (need : N → ℕ) (table : (n : N) → Code N V (V n)) {A : Type 0} (late : A → Bool) (a b : Code N V A) (d : ℕ) → Bool → List A → List Tok → Out (List A)
-items_from N V heads need table late a b d s front ts =
+items_from N V heads need table late a b d s prefix ts =
     run_upto (length ts) (λ s. (pick s (info N V heads need b) (info N V heads need a)).first) (λ s. pick s (reach (least N V heads need b) d) (reach (least N V heads need a) d)) (λ s. true) (λ s x. s || late x)
-    (λ s r. pick s (read N V heads need (readers N V heads need table d) d b r) (read N V heads need (readers N V heads need table d) d a r)) s ts >>= λ xs. Ok (front ++ xs.0, xs.1)
+    (λ s r. pick s (read N V heads need (readers N V heads need table d) d b r) (read N V heads need (readers N V heads need table d) d a r)) s ts >>= λ xs. Ok (prefix ++ xs.0, xs.1)

@@ -49,41 +49,41 @@ abbrev pub Open : {A : Type 0} → Lang A → List Tok → Type 0
 Open {A} L p = (a : A) × (v : List Tok) × ((n : Tok) → L a (p ++ v) n)
 
 -- p begins a text of L
-abbrev pub Front : {A : Type 0} → Lang A → List Tok → Type 0
-Front {A} L p = (a : A) × (v : List Tok) × (n : Tok) × L a (p ++ v) n
+abbrev pub Prefix : {A : Type 0} → Lang A → List Tok → Type 0
+Prefix {A} L p = (a : A) × (v : List Tok) × (n : Tok) × L a (p ++ v) n
 
 -- p begins no text of any depth
 abbrev pub Never : {A : Type 0} → (ℕ → Lang A) → List Tok → Type 0
-Never l p = (e : ℕ) → Front (l e) p → ⊥
+Never l p = (e : ℕ) → Prefix (l e) p → ⊥
 
 -- where reading stopped: only deeper texts go on with the next token, or none does
 pub data Miss : Type 0 where
-  Deep : (rest : List Tok) → Miss
-  Odd : (rest : List Tok) → Miss
+  TooDeep : (rest : List Tok) → Miss
+  Unexpected : (rest : List Tok) → Miss
 
--- the longest front that is viable is a text, and its reading is a
+-- the longest prefix that is viable is a text, and its reading is a
 pub record Reads {A : Type 0} (l : ℕ → Lang A) (d : ℕ) (ts : List Tok) (a : A) (rest : List Tok) : Type 0 where
-  pub front : List Tok
-  pub parts : ts ≡ front ++ rest
-  pub viable : Open (l d) front
-  pub word : l d a front (next rest)
-  pub stops : Never l (front ++ next rest ∷ [])
+  pub prefix : List Tok
+  pub parts : ts ≡ prefix ++ rest
+  pub viable : Open (l d) prefix
+  pub word : l d a prefix (next rest)
+  pub stops : Never l (prefix ++ next rest ∷ [])
 
 -- the tokens up to the fault are viable, with it they begin deeper texts alone
-pub record TooDeep {A : Type 0} (l : ℕ → Lang A) (d : ℕ) (ts : List Tok) (rest : List Tok) : Type 0 where
-  pub front : List Tok
-  pub parts : ts ≡ front ++ rest
-  pub viable : Open (l d) front
-  pub shut : Front (l d) (front ++ next rest ∷ []) → ⊥
-  pub deeper : (e : ℕ) × Open (l e) (front ++ next rest ∷ [])
+pub record IsTooDeep {A : Type 0} (l : ℕ → Lang A) (d : ℕ) (ts : List Tok) (rest : List Tok) : Type 0 where
+  pub prefix : List Tok
+  pub parts : ts ≡ prefix ++ rest
+  pub viable : Open (l d) prefix
+  pub shut : Prefix (l d) (prefix ++ next rest ∷ []) → ⊥
+  pub deeper : (e : ℕ) × Open (l e) (prefix ++ next rest ∷ [])
 
 -- the tokens up to the fault are viable and no text, with it they begin no text of any depth
-pub record Unexpected {A : Type 0} (l : ℕ → Lang A) (d : ℕ) (ts : List Tok) (rest : List Tok) : Type 0 where
-  pub front : List Tok
-  pub parts : ts ≡ front ++ rest
-  pub viable : Open (l d) front
-  pub no_text : (e : ℕ) (a : A) → l e a front (next rest) → ⊥
-  pub stops : Never l (front ++ next rest ∷ [])
+pub record IsUnexpected {A : Type 0} (l : ℕ → Lang A) (d : ℕ) (ts : List Tok) (rest : List Tok) : Type 0 where
+  pub prefix : List Tok
+  pub parts : ts ≡ prefix ++ rest
+  pub viable : Open (l d) prefix
+  pub no_text : (e : ℕ) (a : A) → l e a prefix (next rest) → ⊥
+  pub stops : Never l (prefix ++ next rest ∷ [])
 
 -- a value with the tokens after it, or where reading stopped
 abbrev pub Out : Type 0 → Type 0
@@ -92,8 +92,8 @@ Out A = Result (A × List Tok) Miss
 -- what a reader has to answer, at budget d
 abbrev pub Answer : {A : Type 0} → (ℕ → Lang A) → ℕ → List Tok → Out A → Type 0
 Answer l d ts (Ok x) = Reads l d ts x.0 x.1
-Answer l d ts (Err (Deep rest)) = TooDeep l d ts rest
-Answer l d ts (Err (Odd rest)) = Unexpected l d ts rest
+Answer l d ts (Err (TooDeep rest)) = IsTooDeep l d ts rest
+Answer l d ts (Err (Unexpected rest)) = IsUnexpected l d ts rest
 
 -- the same a level deeper: it takes one of the budget
 abbrev pub Below : {A : Type 0} → (ℕ → Lang A) → ℕ → Lang A

@@ -5,6 +5,6 @@
 //! it may go on (`specs/Info`).
 //!
 //! What is proved, for every table of productions that passes the tests (`IsGood`): `read` answers exactly (`exact` in `proofs/Codes`). It
-//! gives the only reading of the longest viable front, or the first token with which no text of the budget's depth goes on, and tells
+//! gives the only reading of the longest viable prefix, or the first token with which no text of the budget's depth goes on, and tells
 //! whether a deeper text would (`Answer` in `specs/Language`).
 #![tactic(auto)]

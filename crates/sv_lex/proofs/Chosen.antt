@@ -1,10 +1,10 @@
--- The longest token, from the longest front of each form.
+-- The longest token, from the longest prefix of each form.
 use Rattle.std.proofs.Common.{◌≡◌, ℕ, zero, suc, ◌<◌, ◌≤◌, max, Bool, true, false, cond, ◌||◌, eqb, List, [], ◌∷◌, length, take, refl, sym, ap, ◌∙◌, arith}
 use Rattle.std.specs.Prelude.{Option, Some, None, is_some}
 use Rattle.sv_tree.specs.declared.kind.Kind.{Kind}
 use Rattle.sv_tree.specs.declared.kind.Kind.TheVariants as kinds
 use Rattle.sv_tree.specs.Longest.{longest}
-use Rattle.sv_tree.specs.Tokens.{is_after, is_plain_number, is_filling_number, is_based_number, is_sized_number, is_name, is_system_name, is_number, is_time, is_one_step, is_string, escapes, is_spelled, spelled, signs, kind_of, kind_of_name, is_word}
+use Rattle.sv_tree.specs.Tokens.{is_after, is_plain_number, is_filling_number, is_based_number, is_sized_number, is_name, is_system_name, is_number, is_time, is_one_step, is_string, is_escape, is_spelled, spelled, signs, kind_of, kind_of_name, is_word}
 use Rattle.std.specs.Prelude.{if◌then◌else◌, codes, nat_eq}
 use Rattle.std.specs.List.{starts_with}
 use Rattle.std.proofs.lemmas.Bool.{lt-ltb, le-ltb}
@@ -15,7 +15,7 @@ use Rattle.sv_tree.specs.declared.token.Piece.TheVariants as pieces
 use Rattle.sv_tree.specs.Directives.{timescale_at, nettype_at}
 use Rattle.sv_tree.specs.Lexing.{is_token, is_separator, piece_at, token_piece, directive_piece, no_token}
 use Rattle.sv_lex.specs.Choosing.{chosen}
-use Rattle.sv_lex.proofs.Fronts.{longest-same, longest-or, longest-passes}
+use Rattle.sv_lex.proofs.Prefixes.{longest-same, longest-or, longest-passes}
 
 some_cond : (b : Bool) (k : Kind) (o : Option Kind) (t : Bool) → is_some o ≡ t → is_some (cond b (Some k) o) ≡ (b || t)
 some_cond true k o t e = refl
@@ -26,27 +26,27 @@ unfolding spelled is_spelled
 some_spelled [] w = refl
 some_spelled (x ∷ xs) w = some_cond (is_word x.0 w) x.1 (spelled xs w) (is_spelled xs w) (some_spelled xs w)
 
-token_is : (w : List ℕ) → is_token w ≡ (is_name w || (is_system_name w || (is_number w || (is_time w || (is_one_step w || (is_string (escapes true) w || is_spelled signs w))))))
+token_is : (w : List ℕ) → is_token w ≡ (is_name w || (is_system_name w || (is_number w || (is_time w || (is_one_step w || (is_string is_escape w || is_spelled signs w))))))
 unfolding is_token kind_of
 token_is w =
     some_cond (is_name w) _ _ _ (some_cond (is_system_name w) _ _ _ (some_cond (is_number w) _ _ _ (some_cond (is_time w) _ _ _ (some_cond (is_one_step w) _ _ _
-    (some_cond (is_string (escapes true) w) _ _ _ (some_spelled signs w))))))
+    (some_cond (is_string is_escape w) _ _ _ (some_spelled signs w))))))
 
 pub longest_token : (s : List ℕ)
     → longest is_token s ≡ max (longest is_name s) (max (longest is_system_name s) (max (longest is_number s) (max (longest is_time s) (max (longest is_one_step s)
-    (max (longest (is_string (escapes true)) s) (longest (is_spelled signs) s))))))
+    (max (longest (is_string is_escape) s) (longest (is_spelled signs) s))))))
 longest_token s =
-    longest-same is_token (λ w. is_name w || (is_system_name w || (is_number w || (is_time w || (is_one_step w || (is_string (escapes true) w || is_spelled signs w)))))) token_is s
-    ∙ longest-or is_name (λ w. is_system_name w || (is_number w || (is_time w || (is_one_step w || (is_string (escapes true) w || is_spelled signs w))))) s
-    ∙ ap (max (longest is_name s)) (longest-or is_system_name (λ w. is_number w || (is_time w || (is_one_step w || (is_string (escapes true) w || is_spelled signs w)))) s
-    ∙ ap (max (longest is_system_name s)) (longest-or is_number (λ w. is_time w || (is_one_step w || (is_string (escapes true) w || is_spelled signs w))) s
-    ∙ ap (max (longest is_number s)) (longest-or is_time (λ w. is_one_step w || (is_string (escapes true) w || is_spelled signs w)) s
-    ∙ ap (max (longest is_time s)) (longest-or is_one_step (λ w. is_string (escapes true) w || is_spelled signs w) s
-    ∙ ap (max (longest is_one_step s)) (longest-or (is_string (escapes true)) (is_spelled signs) s)))))
+    longest-same is_token (λ w. is_name w || (is_system_name w || (is_number w || (is_time w || (is_one_step w || (is_string is_escape w || is_spelled signs w)))))) token_is s
+    ∙ longest-or is_name (λ w. is_system_name w || (is_number w || (is_time w || (is_one_step w || (is_string is_escape w || is_spelled signs w))))) s
+    ∙ ap (max (longest is_name s)) (longest-or is_system_name (λ w. is_number w || (is_time w || (is_one_step w || (is_string is_escape w || is_spelled signs w)))) s
+    ∙ ap (max (longest is_system_name s)) (longest-or is_number (λ w. is_time w || (is_one_step w || (is_string is_escape w || is_spelled signs w))) s
+    ∙ ap (max (longest is_number s)) (longest-or is_time (λ w. is_one_step w || (is_string is_escape w || is_spelled signs w)) s
+    ∙ ap (max (longest is_time s)) (longest-or is_one_step (λ w. is_string is_escape w || is_spelled signs w) s
+    ∙ ap (max (longest is_one_step s)) (longest-or (is_string is_escape) (is_spelled signs) s)))))
 
--- the kind of a front that is as long as the longest of each form
+-- the kind of a prefix that is as long as the longest of each form
 pub kind_chosen : (s : List ℕ) (n : ℕ) → longest is_token s ≤ n → 0 < n → n ≤ length s
-    → kind_of (take n s) ≡ chosen n (take n s) (longest is_name s) (longest is_system_name s) (longest is_number s) (longest is_time s) (longest is_one_step s) (longest (is_string (escapes true)) s)
+    → kind_of (take n s) ≡ chosen n (take n s) (longest is_name s) (longest is_system_name s) (longest is_number s) (longest is_time s) (longest is_one_step s) (longest (is_string is_escape) s)
 unfolding kind_of
 kind_chosen s n h k l =
     let most = longest_token s in
@@ -55,7 +55,7 @@ kind_chosen s n h k l =
     let number = longest-passes is_number s n (omega (arith, most)) k l in
     let time = longest-passes is_time s n (omega (arith, most)) k l in
     let step = longest-passes is_one_step s n (omega (arith, most)) k l in
-    let string = longest-passes (is_string (escapes true)) s n (omega (arith, most)) k l in
+    let string = longest-passes (is_string is_escape) s n (omega (arith, most)) k l in
     λ i. cond (name i) (Some (kind_of_name (take n s))) (cond (system i) (Some kinds.SystemName) (cond (number i) (Some kinds.Number) (cond (time i) (Some kinds.TimeLiteral)
     (cond (step i) (Some kinds.OneStep) (cond (string i) (Some kinds.StringLiteral) (spelled signs (take n s)))))))
 
@@ -132,7 +132,7 @@ piece_none s n b d w m e h f t g u x z k =
 -- ---- what the code knows of the lengths
 
 pub longest_is : (s : List ℕ) (name system number time step string sign m1 m2 m3 m4 m5 n : ℕ) → name ≡ longest is_name s → system ≡ longest is_system_name s → number ≡ longest is_number s
-    → time ≡ longest is_time s → step ≡ longest is_one_step s → string ≡ longest (is_string (escapes true)) s → sign ≡ longest (is_spelled signs) s
+    → time ≡ longest is_time s → step ≡ longest is_one_step s → string ≡ longest (is_string is_escape) s → sign ≡ longest (is_spelled signs) s
     → m1 ≡ max string sign → m2 ≡ max step m1 → m3 ≡ max time m2 → m4 ≡ max number m3 → m5 ≡ max system m4 → n ≡ max name m5 → n ≡ longest is_token s
 longest_is s name system number time step string sign m1 m2 m3 m4 m5 n a b c d e f g h1 h2 h3 h4 h5 h =
     h ∙ ap (max name) (h5 ∙ ap (max system) (h4 ∙ ap (max number) (h3 ∙ ap (max time) (h2 ∙ ap (max step) h1))))
@@ -144,7 +144,7 @@ some_number zero z = absurd (z refl)
 some_number (suc n) z = omega arith
 
 pub chosen_is : (s : List ℕ) (n k name system number time step string : ℕ) (o : Option Kind) → name ≡ longest is_name s → system ≡ longest is_system_name s → number ≡ longest is_number s
-    → time ≡ longest is_time s → step ≡ longest is_one_step s → string ≡ longest (is_string (escapes true)) s → n ≡ longest is_token s → (n ≡ 0 → ⊥) → n ≤ length s
+    → time ≡ longest is_time s → step ≡ longest is_one_step s → string ≡ longest (is_string is_escape) s → n ≡ longest is_token s → (n ≡ 0 → ⊥) → n ≤ length s
     → o ≡ chosen n (take k s) name system number time step string → k ≡ n → o ≡ kind_of (take n s)
 chosen_is s n k name system number time step string o a b c d e f m z l h x =
     h ∙ ap (λ j. chosen n (take j s) name system number time step string) x

@@ -11,11 +11,10 @@ use Rattle.sv_tree.specs.declared.kind.Kind.TheVariants as kinds
 use Rattle.sv_tree.specs.declared.token.Piece.{Piece}
 use Rattle.sv_tree.specs.declared.token.Piece.TheVariants as pieces
 use Rattle.sv_tree.specs.declared.token.Refused.TheVariants as refused
-use Rattle.sv_tree.specs.declared.token.TheConstants.{MOST_TOKENS}
-use Rattle.sv_tree.specs.Tokens.{is_word, spelled, words, signs, unused, plain_word, kind_of_name, kind_of, is_name, is_system_name, is_number, is_time, is_one_step, is_string, escapes}
+use Rattle.sv_tree.specs.Tokens.{is_word, spelled, words, signs, unused, plain_word, kind_of_name, kind_of, is_name, is_system_name, is_number, is_time, is_one_step, is_string, is_escape}
 use Rattle.sv_tree.specs.Longest.{longest}
 use Rattle.sv_tree.specs.Directives.{timescale_at, nettype_at}
-use Rattle.sv_tree.specs.Lexing.{is_separator, is_token, token_piece, directive_piece, piece_at, Reading, with_piece, with_token, token_of, stopped, reading, after, start, whole, lex_fault, Lexes}
+use Rattle.sv_tree.specs.Lexing.{is_separator, is_token, token_piece, directive_piece, piece_at, Reading, with_piece, with_token, token_of, stopped, reading, after, start, whole, lex_fault, Lexes, most_tokens}
 use Rattle.sv_tree.specs.Codes.{code, toks}
 use Rattle.sv_tree.specs.Closed.{IsClosed}
 
@@ -75,7 +74,7 @@ kind_inner : (w : List ℕ) → IsInner (kind_of w)
 unfolding kind_of
 kind_inner w =
     cond_inner (is_name w) _ _ (name_inner w) (cond_inner (is_system_name w) _ _ refl (cond_inner (is_number w) _ _ refl (cond_inner (is_time w) _ _ refl
-    (cond_inner (is_one_step w) _ _ refl (cond_inner (is_string (escapes true) w) _ _ refl (spelled_inner signs w signs_inner))))))
+    (cond_inner (is_one_step w) _ _ refl (cond_inner (is_string is_escape w) _ _ refl (spelled_inner signs w signs_inner))))))
 
 -- ---- pieces
 
@@ -124,7 +123,7 @@ piece_ends : (p : Piece) (count : ℕ) (at : Place) (s : List ℕ) (others : ℕ
 unfolding with_piece
 piece_ends (pieces.Passed n) count at s others h g = g count n
 piece_ends (pieces.Scale unit precision n) count at s others h g = g count n
-piece_ends (pieces.Token k n) count at s others h g = token_ends (count == MOST_TOKENS) k at (take n s) (others (count + 1) n) h (g (count + 1) n)
+piece_ends (pieces.Token k n) count at s others h g = token_ends (count == most_tokens) k at (take n s) (others (count + 1) n) h (g (count + 1) n)
 piece_ends (pieces.Nothing why) count at s others h g = λ f. absurd cc
 
 reading_ends : (count k : ℕ) (at : Place) (s : List ℕ) → EndsOnce (reading count k at s)

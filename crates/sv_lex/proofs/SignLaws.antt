@@ -6,7 +6,7 @@ use Rattle.std.specs.Prelude.{◌==◌}
 use Rattle.std.specs.List.{list_all, list_any}
 use Rattle.sv_tree.specs.Longest.{longest, grown}
 use Rattle.sv_tree.specs.Tokens.{is_nil, is_word, is_spelled, is_word_part, signs}
-use Rattle.sv_lex.proofs.Fronts.{longest-cons, longest-none, longest-is_nil, first}
+use Rattle.sv_lex.proofs.Prefixes.{longest-cons, longest-none, longest-is_nil, first}
 use Rattle.sv_lex.specs.FirstBytes.{alone, is_alone}
 
 -- a word begins with a byte that may not stand in a name

@@ -10,8 +10,7 @@ use Rattle.sv_tree.specs.declared.token.Timescale.{Timescale}
 use Rattle.sv_tree.specs.declared.token.Refused.{Refused}
 use Rattle.sv_tree.specs.declared.token.Refused.TheVariants as refused
 use Rattle.sv_tree.specs.declared.token.Piece.TheVariants as pieces
-use Rattle.sv_tree.specs.declared.token.TheConstants.{MOST_TOKENS}
-use Rattle.sv_tree.specs.Lexing.{Reading, Lexes, after, reading, with_piece, piece_at, with_token, with_scale, token_of, scale_of, stopped, end_of_text, whole}
+use Rattle.sv_tree.specs.Lexing.{Reading, Lexes, after, reading, with_piece, piece_at, with_token, with_scale, token_of, scale_of, stopped, end_of_text, whole, most_tokens}
 use Rattle.sv_lex.specs.Going.{joined, moved}
 
 reading_skip : (count k : ℕ) (at : Place) (s : List ℕ) → k ≤ length s → reading count k at s ≡ reading count 0 (moved at (take k s)) (drop k s)
@@ -41,22 +40,22 @@ scale_goes count at (c ∷ cs) unit precision n e a b =
     ap (λ p. with_piece p count at (c ∷ cs) (λ m k. reading m (k - 1) (after c at) cs)) (sym e)
     ∙ ap (with_scale (scale_of unit precision at)) (others_at count n at c cs a b)
 
-pub token_goes : (count : ℕ) (at : Place) (s : List ℕ) (kind : Kind) (n : ℕ) → pieces.Token kind n ≡ piece_at s → 1 ≤ n → n ≤ length s → (count ≡ MOST_TOKENS → ⊥)
+pub token_goes : (count : ℕ) (at : Place) (s : List ℕ) (kind : Kind) (n : ℕ) → pieces.Token kind n ≡ piece_at s → 1 ≤ n → n ≤ length s → (count ≡ most_tokens → ⊥)
     → reading count 0 at s ≡ with_token (token_of kind at (take n s)) (reading (count + 1) 0 (moved at (take n s)) (drop n s))
 unfolding reading with_piece
 token_goes count at [] kind n e a b f = absurd (omega arith)
 token_goes count at (c ∷ cs) kind n e a b f =
     ap (λ p. with_piece p count at (c ∷ cs) (λ m k. reading m (k - 1) (after c at) cs)) (sym e)
-    ∙ ap (λ t. cond t (stopped refused.TooManyTokens at) (with_token (token_of kind at (take n (c ∷ cs))) (reading (count + 1) (n - 1) (after c at) cs))) (ne_eqb count MOST_TOKENS f)
+    ∙ ap (λ t. cond t (stopped refused.TooManyTokens at) (with_token (token_of kind at (take n (c ∷ cs))) (reading (count + 1) (n - 1) (after c at) cs))) (ne_eqb count most_tokens f)
     ∙ ap (with_token (token_of kind at (take n (c ∷ cs)))) (others_at (count + 1) n at c cs a b)
 
-pub token_stops : (count : ℕ) (at : Place) (s : List ℕ) (kind : Kind) (n : ℕ) → pieces.Token kind n ≡ piece_at s → 1 ≤ length s → count ≡ MOST_TOKENS
+pub token_stops : (count : ℕ) (at : Place) (s : List ℕ) (kind : Kind) (n : ℕ) → pieces.Token kind n ≡ piece_at s → 1 ≤ length s → count ≡ most_tokens
     → (reading count 0 at s).fault ≡ Some (refused.TooManyTokens, at)
 unfolding reading with_piece
 token_stops count at [] kind n e a f = absurd (omega arith)
 token_stops count at (c ∷ cs) kind n e a f =
     ap (λ p. (with_piece p count at (c ∷ cs) (λ m k. reading m (k - 1) (after c at) cs)).fault) (sym e)
-    ∙ ap (λ t. (let r : Reading = cond t (record { tokens = []; scales = []; fault = Some (refused.TooManyTokens, at) }) (with_token (token_of kind at (take n (c ∷ cs))) (reading (count + 1) (n - 1) (after c at) cs)) in r).fault) (eq-eqb count MOST_TOKENS f)
+    ∙ ap (λ t. (let r : Reading = cond t (record { tokens = []; scales = []; fault = Some (refused.TooManyTokens, at) }) (with_token (token_of kind at (take n (c ∷ cs))) (reading (count + 1) (n - 1) (after c at) cs)) in r).fault) (eq-eqb count most_tokens f)
 
 pub nothing_stops : (count : ℕ) (at : Place) (s : List ℕ) (why : Refused) → pieces.Nothing why ≡ piece_at s → 1 ≤ length s → (reading count 0 at s).fault ≡ Some (why, at)
 unfolding reading with_piece
@@ -98,7 +97,7 @@ scale_joined ts cs cs' at s unit precision n e a b f =
     ap (λ l. joined ts l r) f ∙ joined_scale ts cs (scale_of unit precision at) r ∙ ap (joined ts cs) (sym (scale_goes (length ts) at s unit precision n e a b))
 
 pub token_joined : (ts ts' : List Token) (cs : List Timescale) (at : Place) (s : List ℕ) (kind : Kind) (n k : ℕ) (t : Token) → pieces.Token kind n ≡ piece_at s → 1 ≤ n → n ≤ length s
-    → (length ts ≡ MOST_TOKENS → ⊥) → ts' ≡ ts ++ t ∷ [] → t ≡ token_of kind at (take k s) → k ≡ n
+    → (length ts ≡ most_tokens → ⊥) → ts' ≡ ts ++ t ∷ [] → t ≡ token_of kind at (take k s) → k ≡ n
     → joined ts' cs (reading (length ts') 0 (moved at (take n s)) (drop n s)) ≡ joined ts cs (reading (length ts) 0 at s)
 token_joined ts ts' cs at s kind n k t e a b f g h x =
     let w = token_of kind at (take n s) in

@@ -154,7 +154,7 @@ fn nettype_at(s: &[u8]) -> Option<&[u8]>
     after_end_of_word(rest)
 }
 
-/// The directive at the front.
+/// The directive that the text begins with.
 #[tactic(auto, unfolding(sv_tree::specs::Lexing::directive_piece))]
 pub fn directive(s: &[u8]) -> Piece
     ensures value { result ≡ directive_piece s.now (timescale_at s.now) (nettype_at s.now) }

@@ -1,4 +1,4 @@
-// Tests of bytes, and how many bytes at the front of a text pass one.
+// Tests of bytes, and how many bytes pass one before the first that does not.
 
 ghost use Rattle.std.specs.Prelude.{◌≡◌, ◌≤◌, ◌<◌, ◌+◌, ◌^◌, false, length};
 ghost use Rattle.std.specs.List.{prefix_len};
@@ -91,7 +91,7 @@ pub fn is_space(c: u8) -> bool
     c == b' ' || c == b'\t'
 }
 
-/// How many bytes at the front may stand in a name.
+/// How many bytes that may stand in a name the text begins with.
 pub fn name_run(s: &[u8]) -> usize
     ensures value { result ≡ prefix_len is_name_part s.now }
     ensures within { result ≤ length s.now }
@@ -99,7 +99,7 @@ pub fn name_run(s: &[u8]) -> usize
     s.iter().take_while(|c| is_name_part(**c)).count()
 }
 
-/// How many digits stand at the front.
+/// How many digits the text begins with.
 pub fn digit_run(s: &[u8]) -> usize
     ensures value { result ≡ prefix_len is_ascii_digit s.now }
     ensures within { result ≤ length s.now }
@@ -107,7 +107,7 @@ pub fn digit_run(s: &[u8]) -> usize
     s.iter().take_while(|c| c.is_ascii_digit()).count()
 }
 
-/// How many digits and `_` stand at the front.
+/// How many digits and `_` the text begins with.
 pub fn digit_or_mark_run(s: &[u8]) -> usize
     ensures value { result ≡ prefix_len is_digit_or_mark s.now }
     ensures within { result ≤ length s.now }
@@ -115,7 +115,7 @@ pub fn digit_or_mark_run(s: &[u8]) -> usize
     s.iter().take_while(|c| is_digit_or_mark(**c)).count()
 }
 
-/// How many letters, digits and `_` stand at the front.
+/// How many letters, digits and `_` the text begins with.
 pub fn word_run(s: &[u8]) -> usize
     ensures value { result ≡ prefix_len is_word_part s.now }
     ensures within { result ≤ length s.now }
@@ -123,7 +123,7 @@ pub fn word_run(s: &[u8]) -> usize
     s.iter().take_while(|c| is_word_part(**c)).count()
 }
 
-/// How many letters, digits, `_` and `?` stand at the front.
+/// How many letters, digits, `_` and `?` the text begins with.
 pub fn digit_part_run(s: &[u8]) -> usize
     ensures value { result ≡ prefix_len is_digit_part s.now }
     ensures within { result ≤ length s.now }
@@ -139,7 +139,7 @@ pub fn line_run(s: &[u8]) -> usize
     s.iter().take_while(|c| is_on_line(**c)).count()
 }
 
-/// How many blanks and tabs stand at the front.
+/// How many blanks and tabs the text begins with.
 pub fn space_run(s: &[u8]) -> usize
     ensures value { result ≡ prefix_len is_space s.now }
     ensures within { result ≤ length s.now }
@@ -147,7 +147,7 @@ pub fn space_run(s: &[u8]) -> usize
     s.iter().take_while(|c| is_space(**c)).count()
 }
 
-/// One more byte before a front, where there is one.
+/// One more byte before so many, where there are any.
 pub fn lifted(n: usize) -> usize
     requires { n < 2 ^ 63 }
     ensures value { result ≡ grown false n }

@@ -1,17 +1,17 @@
 // The whole text, piece by piece.
 
 ghost use Rattle.std.specs.Prelude.{◌≡◌, ℕ, ◌≤◌, ◌<◌, ◌+◌, ◌-◌, ◌^◌, length, take, drop, IfOk, IfErr};
-ghost use Rattle.sv_tree.specs.Lexing.{Lexes, lex_fault, scales, start, after, token_of, end_of_text, reading, keeps_text};
+ghost use Rattle.sv_tree.specs.Lexing.{piece_at, Lexes, lex_fault, scales, start, after, token_of, end_of_text, reading, keeps_text};
 ghost use Rattle.sv_tree.specs.Codes.{toks};
 ghost use Rattle.sv_tree.specs.Closed.{IsClosed};
-ghost use Rattle.sv_lex.specs.Going.{joined, moved};
+ghost use Rattle.sv_lex.specs.Going.{Fits, Goes, moved};
 ghost use Rattle.sv_lex.specs.Answers.{Told};
 ghost use Rattle.sv_lex.specs.declared.lexer.LexFault.TheVariants.{Memory};
 
 use crate::pieces::piece_at;
 use std::alloc::{AllocFailed, Global};
 use sv_tree::{Kind, MOST_TOKENS, Piece, Refused, Timescale, Token};
-use sv_value::{NoMemory, Place, Text};
+use sv_value::{Excerpt, NoMemory, Place};
 use thiserror::Error;
 
 /// The tokens of a text in their order, behind them one for its end (behind the last separator), and the time scales that it sets.
@@ -111,32 +111,42 @@ fn keeps_text(kind: Kind) -> bool
     )
 }
 
-/// A token, with its bytes where they are kept.
-fn token(alloc: Global, kind: Kind, at: Place, word: &[u8]) -> Result<Token, NoMemory>
-    ensures { IfOk result (λ t. t ≡ token_of kind at word.now) }
+/// A token of `n` bytes from place `i` of the text on, with its bytes where they are kept.
+fn token(text: &Excerpt, kind: Kind, at: Place, i: usize, n: usize) -> Result<Token, NoMemory>
+    requires { i + n ≤ length text.now }
+    ensures { IfOk result (λ t. t ≡ token_of kind at (take n (drop i text.now))) }
 {
-    let mut text = Text::new(alloc);
-    if keeps_text(kind) {
-        text.push_all(word)?;
-        return Ok(Token { kind, at, text });
-    }
-    Ok(Token { kind, at, text })
+    let kept = if keeps_text(kind) { n } else { 0 };
+    Ok(Token {
+        kind,
+        at,
+        text: text.part(i, kept)?,
+    })
 }
 
-/// Reads one piece at the front, and gives its length in bytes.
+/// What the text from place `i` on begins with.
+fn piece_in(text: &Excerpt, i: usize) -> Piece
+    requires { i ≤ length text.now }
+    ensures value { result ≡ piece_at (drop i text.now) }
+    ensures fits { Fits result (length (drop i text.now)) }
+{
+    piece_at(&text.bytes()[i..])
+}
+
+/// Reads what the text from place `i` on begins with, and gives its length in bytes.
 fn step(
-    alloc: Global,
     tokens: &mut Vec<Token>,
     scales: &mut Vec<Timescale>,
     at: Place,
-    rest: &[u8],
+    text: &Excerpt,
+    i: usize,
 ) -> Result<usize, LexFault>
-    requires { 1 ≤ length rest.now }
-    ensures goes { IfOk result (λ n. joined tokens.new.items scales.new.items (reading (length tokens.new.items) 0 (moved at (take n rest.now)) (drop n rest.now)) ≡ joined tokens.old.items scales.old.items (reading (length tokens.old.items) 0 at rest.now)) }
-    ensures fits { IfOk result (λ n. (1 ≤ n) × (n ≤ length rest.now)) }
-    ensures stops { IfErr result (λ e. Told e (reading (length tokens.old.items) 0 at rest.now).fault) }
+    requires { i < length text.now }
+    ensures goes { IfOk result (λ n. Goes tokens.old.items scales.old.items tokens.new.items scales.new.items at n (drop i text.now)) }
+    ensures fits { IfOk result (λ n. (1 ≤ n) × (i + n ≤ length text.now)) }
+    ensures stops { IfErr result (λ e. Told e (reading (length tokens.old.items) 0 at (drop i text.now)).fault) }
 {
-    match piece_at(rest) {
+    match piece_in(text, i) {
         Piece::Passed(n) => Ok(n),
         Piece::Scale(unit, precision, n) => {
             scales.push(Timescale {
@@ -153,7 +163,7 @@ fn step(
                     kind: Refused::TooManyTokens,
                 });
             }
-            tokens.push(token(alloc, kind, at, &rest[..n])?)?;
+            tokens.push(token(text, kind, at, i, n)?)?;
             Ok(n)
         }
         Piece::Nothing(kind) => Err(LexFault::Bad { at, kind }),
@@ -161,20 +171,21 @@ fn step(
 }
 
 /// The token behind the last.
-fn end_of_text(alloc: Global, at: Place) -> Token
-    ensures { result ≡ end_of_text at }
+fn end_of_text(text: &Excerpt, at: Place) -> Result<Token, NoMemory>
+    ensures { IfOk result (λ t. t ≡ end_of_text at) }
 {
-    Token {
+    Ok(Token {
         kind: Kind::EndOfText,
         at,
-        text: Text::new(alloc),
-    }
+        text: text.part(0, 0)?,
+    })
 }
 
 /// The tokens of a text, or the first place where nothing can be read (IEEE 1800-2017, 5.2 to 5.9, 22.7 and 22.8).
 ///
 /// Each token is the longest that fits; separators and the permitted directives are passed over. `file` is the number that the places
-/// of the tokens carry. A number that means nothing is a fault, and so is the token behind the 2^21st.
+/// of the tokens carry. A number that means nothing is a fault, and so is the token behind the 2^21st. All tokens share one copy of the
+/// text.
 pub fn lex(alloc: Global, file: u16, text: &[u8]) -> Result<Lexed, LexFault>
     requires { length text.now ≤ 2 ^ 23 }
     ensures tokens { IfOk result (λ l. Lexes file text.now l.tokens.items) }
@@ -182,16 +193,16 @@ pub fn lex(alloc: Global, file: u16, text: &[u8]) -> Result<Lexed, LexFault>
     ensures scales { IfOk result (λ l. l.scales.items ≡ scales file text.now) }
     ensures fault { IfErr result (λ e. Told e (lex_fault file text.now)) }
 {
+    let whole = Excerpt::new(alloc, text)?;
     let mut tokens = Vec::new(alloc);
     let mut scales = Vec::new(alloc);
     let mut at = start(file);
     let mut i = 0;
     while i < text.len() {
-        let rest = &text[i..];
-        let n = step(alloc, &mut tokens, &mut scales, at, rest)?;
-        at = moved(at, &rest[..n]);
+        let n = step(&mut tokens, &mut scales, at, &whole, i)?;
+        at = moved(at, &text[i..i + n]);
         i += n;
     }
-    tokens.push(end_of_text(alloc, at))?;
+    tokens.push(end_of_text(&whole, at)?)?;
     Ok(Lexed { tokens, scales })
 }

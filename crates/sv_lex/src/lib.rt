@@ -2,7 +2,7 @@
 //!
 //! At each place the lexer asks, in this order:
 //! 1. is there a separator, or a directive? It is passed over (a time scale is kept);
-//! 2. how long is the longest front of each form (name, number, time, string, operator)? The longest of these is the token;
+//! 2. how long is the longest prefix of each form (name, number, time, string, operator)? The longest of these is the token;
 //! 3. is the token a number that means nothing, or one token too many? These are faults, as is a place where no form begins.
 //!
 //! What a token is, and which tokens a text has, is defined in `sv_tree`'s `specs/Tokens` and `specs/Lexing`.

@@ -6,8 +6,8 @@ ghost use Rattle.sv_tree.specs.Tokens.{is_name, is_system_name};
 
 use crate::letters::{is_letter, lifted, name_run};
 
-/// The length of the longest name at the front, or 0.
-#[tactic(auto, using(crate::proofs::Fronts::longest_short, crate::proofs::Forms::name_front))]
+/// The length of the longest name, or 0.
+#[tactic(auto, using(crate::proofs::Prefixes::longest_short, crate::proofs::Forms::name_prefix))]
 pub fn name_length(s: &[u8]) -> usize
     ensures value { result ≡ longest is_name s.now }
     ensures within { result ≤ length s.now }
@@ -18,8 +18,8 @@ pub fn name_length(s: &[u8]) -> usize
     }
 }
 
-/// The length of the longest system name at the front, or 0.
-#[tactic(auto, using(crate::proofs::Fronts::longest_short, crate::proofs::Forms::system_name_front))]
+/// The length of the longest system name, or 0.
+#[tactic(auto, using(crate::proofs::Prefixes::longest_short, crate::proofs::Forms::system_name_prefix))]
 pub fn system_name_length(s: &[u8]) -> usize
     ensures value { result ≡ longest is_system_name s.now }
     ensures within { result ≤ length s.now }

@@ -9,8 +9,8 @@ use crate::letters::{
     is_filling_digit, is_sign_letter, is_unit_letter, lifted, word_run,
 };
 
-/// The length of the longest run of digits and `_` at the front that begins with a digit, or 0.
-#[tactic(auto, using(crate::proofs::Fronts::longest_short, crate::proofs::Forms::plain_front))]
+/// The length of the longest run of digits and `_` that begins with a digit, or 0.
+#[tactic(auto, using(crate::proofs::Prefixes::longest_short, crate::proofs::Forms::plain_prefix))]
 pub fn plain_number_length(s: &[u8]) -> usize
     ensures value { result ≡ longest is_plain_number s.now }
     ensures within { result ≤ length s.now }
@@ -28,7 +28,7 @@ pub fn plain_number_length(s: &[u8]) -> usize
 }
 
 /// 1 where a digit that fills is next, else 0.
-#[tactic(auto, using(crate::proofs::Fronts::longest_short, crate::proofs::Forms::filling_digit_front))]
+#[tactic(auto, using(crate::proofs::Prefixes::longest_short, crate::proofs::Forms::filling_digit_prefix))]
 fn filling_digit_length(s: &[u8]) -> usize
     ensures value { result ≡ longest (is_one is_filling_digit) s.now }
     ensures within { result ≤ length s.now }
@@ -39,8 +39,8 @@ fn filling_digit_length(s: &[u8]) -> usize
     }
 }
 
-/// The length of `'0`, `'1`, `'x` or `'z` at the front, or 0.
-#[tactic(auto, using(crate::proofs::Fronts::longest_short, crate::proofs::Forms::filling_front))]
+/// The length of `'0`, `'1`, `'x` or `'z`, or 0.
+#[tactic(auto, using(crate::proofs::Prefixes::longest_short, crate::proofs::Forms::filling_prefix))]
 pub fn filling_number_length(s: &[u8]) -> usize
     ensures value { result ≡ longest is_filling_number s.now }
     ensures within { result ≤ length s.now }
@@ -58,7 +58,7 @@ pub fn filling_number_length(s: &[u8]) -> usize
 }
 
 /// How far the digits after `d` go.
-#[tactic(auto, using(crate::proofs::Fronts::longest_short, crate::proofs::Forms::decimal_front))]
+#[tactic(auto, using(crate::proofs::Prefixes::longest_short, crate::proofs::Forms::decimal_prefix))]
 fn decimal_body_length(s: &[u8]) -> usize
     ensures value { result ≡ longest is_decimal_body s.now }
     ensures within { result ≤ length s.now }
@@ -77,8 +77,8 @@ fn decimal_body_length(s: &[u8]) -> usize
     }
 }
 
-/// The length of the longest base letter with digits at the front, or 0.
-#[tactic(auto, using(crate::proofs::Fronts::longest_short, crate::proofs::Forms::base_front))]
+/// The length of the longest base letter with digits, or 0.
+#[tactic(auto, using(crate::proofs::Prefixes::longest_short, crate::proofs::Forms::base_prefix))]
 fn base_length(s: &[u8]) -> usize
     ensures value { result ≡ longest is_base s.now }
     ensures within { result ≤ length s.now }
@@ -98,7 +98,7 @@ fn base_length(s: &[u8]) -> usize
 }
 
 /// The same, with an `s` before it or not.
-#[tactic(auto, using(crate::proofs::Fronts::longest_short, crate::proofs::Forms::signed_front))]
+#[tactic(auto, using(crate::proofs::Prefixes::longest_short, crate::proofs::Forms::signed_prefix))]
 fn signed_base_length(s: &[u8]) -> usize
     ensures value { result ≡ longest is_signed_base s.now }
     ensures within { result ≤ length s.now }
@@ -115,8 +115,8 @@ fn signed_base_length(s: &[u8]) -> usize
     }
 }
 
-/// The length of the longest based number without a size at the front, or 0.
-#[tactic(auto, using(crate::proofs::Fronts::longest_short, crate::proofs::Forms::based_front))]
+/// The length of the longest based number without a size, or 0.
+#[tactic(auto, using(crate::proofs::Prefixes::longest_short, crate::proofs::Forms::based_prefix))]
 pub fn based_number_length(s: &[u8]) -> usize
     ensures value { result ≡ longest is_based_number s.now }
     ensures within { result ≤ length s.now }
@@ -134,7 +134,7 @@ pub fn based_number_length(s: &[u8]) -> usize
 }
 
 /// The length of the rest of a size with a based number, or 0.
-#[tactic(auto, using(crate::proofs::Fronts::longest_short, crate::proofs::Forms::size_front))]
+#[tactic(auto, using(crate::proofs::Prefixes::longest_short, crate::proofs::Forms::size_prefix))]
 fn size_rest_length(s: &[u8]) -> usize
     ensures value { result ≡ longest is_size_rest s.now }
     ensures within { result ≤ length s.now }
@@ -144,8 +144,8 @@ fn size_rest_length(s: &[u8]) -> usize
     if number == 0 { 0 } else { size + number }
 }
 
-/// The length of the longest based number with a size at the front, or 0.
-#[tactic(auto, using(crate::proofs::Fronts::longest_short, crate::proofs::Forms::sized_front))]
+/// The length of the longest based number with a size, or 0.
+#[tactic(auto, using(crate::proofs::Prefixes::longest_short, crate::proofs::Forms::sized_prefix))]
 pub fn sized_number_length(s: &[u8]) -> usize
     ensures value { result ≡ longest is_sized_number s.now }
     ensures within { result ≤ length s.now }
@@ -162,8 +162,8 @@ pub fn sized_number_length(s: &[u8]) -> usize
     }
 }
 
-/// The length of the longest number of any form at the front, or 0.
-#[tactic(auto, using(crate::proofs::Fronts::longest_short, crate::proofs::Forms::number_is))]
+/// The length of the longest number of any form, or 0.
+#[tactic(auto, using(crate::proofs::Prefixes::longest_short, crate::proofs::Forms::number_is))]
 pub fn number_length(s: &[u8]) -> usize
     ensures value { result ≡ longest is_number s.now }
     ensures within { result ≤ length s.now }
@@ -176,7 +176,7 @@ pub fn number_length(s: &[u8]) -> usize
 }
 
 /// 1 where an `s` is next, else 0.
-#[tactic(auto, using(crate::proofs::Fronts::longest_short, crate::proofs::Forms::second_front))]
+#[tactic(auto, using(crate::proofs::Prefixes::longest_short, crate::proofs::Forms::second_prefix))]
 fn second_length(s: &[u8]) -> usize
     ensures value { result ≡ longest (is_one (λ d. d == 115)) s.now }
     ensures within { result ≤ length s.now }
@@ -187,8 +187,8 @@ fn second_length(s: &[u8]) -> usize
     }
 }
 
-/// The length of the unit of time at the front, or 0.
-#[tactic(auto, using(crate::proofs::Fronts::longest_short, crate::proofs::Forms::unit_front))]
+/// The length of the unit of time, or 0.
+#[tactic(auto, using(crate::proofs::Prefixes::longest_short, crate::proofs::Forms::unit_prefix))]
 fn unit_length(s: &[u8]) -> usize
     ensures value { result ≡ longest is_unit s.now }
     ensures within { result ≤ length s.now }
@@ -208,7 +208,7 @@ fn unit_length(s: &[u8]) -> usize
 }
 
 /// The length of the rest of the digits with a unit, or 0.
-#[tactic(auto, using(crate::proofs::Fronts::longest_short, crate::proofs::Forms::time_rest_front))]
+#[tactic(auto, using(crate::proofs::Prefixes::longest_short, crate::proofs::Forms::time_rest_prefix))]
 fn time_rest_length(s: &[u8]) -> usize
     ensures value { result ≡ longest is_time_rest s.now }
     ensures within { result ≤ length s.now }
@@ -218,8 +218,8 @@ fn time_rest_length(s: &[u8]) -> usize
     if unit == 0 { 0 } else { digits + unit }
 }
 
-/// The length of the time literal at the front, or 0.
-#[tactic(auto, using(crate::proofs::Fronts::longest_short, crate::proofs::Forms::time_front))]
+/// The length of the time literal, or 0.
+#[tactic(auto, using(crate::proofs::Prefixes::longest_short, crate::proofs::Forms::time_prefix))]
 pub fn time_length(s: &[u8]) -> usize
     ensures value { result ≡ longest is_time s.now }
     ensures within { result ≤ length s.now }
@@ -236,8 +236,8 @@ pub fn time_length(s: &[u8]) -> usize
     }
 }
 
-/// The length of `1step` at the front, or 0.
-#[tactic(auto, using(crate::proofs::Forms::one_step_front))]
+/// The length of `1step`, or 0.
+#[tactic(auto, using(crate::proofs::Forms::one_step_prefix))]
 pub fn one_step_length(s: &[u8]) -> usize
     ensures value { result ≡ longest is_one_step s.now }
     ensures within { result ≤ length s.now }

@@ -1,4 +1,4 @@
-// What stands at the front of a text.
+// What a text begins with.
 
 ghost use Rattle.std.specs.Prelude.{◌≡◌, ◌≤◌, ◌<◌, length, take, is_err};
 ghost use Rattle.sv_tree.specs.Longest.{longest};
@@ -12,12 +12,12 @@ use crate::directives::directive;
 use crate::names::{name_length, system_name_length};
 use crate::numbers::{number_length, one_step_length, time_length};
 use crate::separators::separator_length;
-use crate::strings::string_length;
+use crate::strings::{Escape, string_length};
 use crate::tables::{kind_in, kind_of_name, sign_length, signs};
 use sv_digits::read_literal;
 use sv_tree::{Kind, Piece, Refused};
 
-/// The lengths of the longest fronts of each form.
+/// The lengths of the longest prefixes of each form.
 #[derive(Clone, Copy, Debug)]
 struct Lengths {
     name: usize,
@@ -28,7 +28,7 @@ struct Lengths {
     string: usize,
 }
 
-/// The kind of a front of `n` bytes.
+/// The kind of a token of `n` bytes.
 fn chosen(n: usize, word: &[u8], lengths: Lengths) -> Option<Kind>
     ensures { result ≡ chosen n word.now lengths.name lengths.system lengths.number lengths.time lengths.step lengths.string }
 {
@@ -53,7 +53,7 @@ fn chosen(n: usize, word: &[u8], lengths: Lengths) -> Option<Kind>
     kind_in(signs(), word)
 }
 
-/// The longest token at the front, its kind, and whether it is a number.
+/// The length of the longest token, its kind, and whether it is a number.
 fn token_at(s: &[u8]) -> (usize, Option<Kind>, bool)
     ensures length { result.0 ≡ longest is_token s.now }
     ensures within { result.0 ≤ length s.now }
@@ -65,7 +65,7 @@ fn token_at(s: &[u8]) -> (usize, Option<Kind>, bool)
     let number = number_length(s);
     let time = time_length(s);
     let step = one_step_length(s);
-    let string = string_length(s, true);
+    let string = string_length(s, Escape::Known);
     let sign = sign_length(s);
     let n = name.max(system.max(number.max(time.max(step.max(string.max(sign))))));
     if n == 0 {
@@ -87,7 +87,7 @@ fn token_at(s: &[u8]) -> (usize, Option<Kind>, bool)
 fn no_token(s: &[u8]) -> Refused
     ensures { result ≡ no_token s.now }
 {
-    if s.starts_with(b"\"") && string_length(s, false) == 0 {
+    if s.starts_with(b"\"") && string_length(s, Escape::Any) == 0 {
         Refused::OpenText
     } else {
         Refused::BadByte
@@ -121,7 +121,7 @@ fn token_piece(s: &[u8], n: usize, kind: Option<Kind>, numeric: bool) -> Piece
     }
 }
 
-/// The longest piece at the front.
+/// What a text begins with.
 #[tactic(auto, using(crate::proofs::Chosen::piece_separator, crate::proofs::Chosen::piece_comment, crate::proofs::Chosen::piece_directive, crate::proofs::Chosen::piece_token, crate::proofs::Chosen::piece_none))]
 pub fn piece_at(s: &[u8]) -> Piece
     ensures value { result ≡ piece_at s.now }

@@ -4,7 +4,7 @@ ghost use Rattle.std.specs.Prelude.{◌≡◌, ◌≤◌, ◌==◌, ◌&&◌, le
 ghost use Rattle.std.specs.List.{list_all};
 ghost use Rattle.sv_tree.specs.Longest.{longest};
 ghost use Rattle.sv_tree.specs.Tokens.{is_after, is_on_line};
-ghost use Rattle.sv_tree.specs.Lexing.{is_blank_byte, is_blank, is_line_comment, is_comment_rest, is_comment, is_separator};
+ghost use Rattle.sv_tree.specs.Lexing.{slash, star, is_blank_byte, is_blank, is_line_comment, is_comment_rest, is_comment, is_separator};
 
 use crate::letters::{lifted, line_run};
 
@@ -16,7 +16,7 @@ fn is_blank_byte(c: u8) -> bool
 }
 
 /// 1 where a blank is next, else 0.
-#[tactic(auto, using(crate::proofs::Fronts::longest_short, crate::proofs::Forms::blank_front))]
+#[tactic(auto, using(crate::proofs::Prefixes::longest_short, crate::proofs::Forms::blank_prefix))]
 fn blank_length(s: &[u8]) -> usize
     ensures value { result ≡ longest is_blank s.now }
     ensures within { result ≤ length s.now }
@@ -28,9 +28,9 @@ fn blank_length(s: &[u8]) -> usize
 }
 
 /// After the first `/`.
-#[tactic(auto, using(crate::proofs::Fronts::longest_short, crate::proofs::Forms::slash_front))]
+#[tactic(auto, using(crate::proofs::Prefixes::longest_short, crate::proofs::Forms::slash_prefix))]
 fn slash_length(s: &[u8]) -> usize
-    ensures value { result ≡ longest (is_after 47 (list_all is_on_line)) s.now }
+    ensures value { result ≡ longest (is_after slash (list_all is_on_line)) s.now }
     ensures within { result ≤ length s.now }
 {
     match s {
@@ -39,8 +39,8 @@ fn slash_length(s: &[u8]) -> usize
     }
 }
 
-/// The length of the comment to the end of its line at the front, or 0.
-#[tactic(auto, using(crate::proofs::Fronts::longest_short, crate::proofs::Forms::line_comment_front))]
+/// The length of the comment to the end of its line, or 0.
+#[tactic(auto, using(crate::proofs::Prefixes::longest_short, crate::proofs::Forms::line_comment_prefix))]
 fn line_comment_length(s: &[u8]) -> usize
     ensures value { result ≡ longest is_line_comment s.now }
     ensures within { result ≤ length s.now }
@@ -59,13 +59,13 @@ fn line_comment_length(s: &[u8]) -> usize
 
 /// Whether a comment ends with these bytes.
 fn is_end(a: u8, b: u8) -> bool
-    ensures { result ≡ (a == 42 && b == 47) }
+    ensures { result ≡ (a == star && b == slash) }
 {
     a == b'*' && b == b'/'
 }
 
 /// Up to the first `*/`.
-#[tactic(auto, using(crate::proofs::Fronts::over_start, crate::proofs::Forms::comment_found, crate::proofs::Forms::comment_goes, crate::proofs::Forms::comment_done))]
+#[tactic(auto, using(crate::proofs::Prefixes::over_start, crate::proofs::Forms::comment_found, crate::proofs::Forms::comment_goes, crate::proofs::Forms::comment_done))]
 fn comment_rest_length(s: &[u8]) -> usize
     ensures value { result ≡ longest is_comment_rest s.now }
     ensures within { result ≤ length s.now }
@@ -81,9 +81,9 @@ fn comment_rest_length(s: &[u8]) -> usize
 }
 
 /// After the first `/`.
-#[tactic(auto, using(crate::proofs::Fronts::longest_short, crate::proofs::Forms::star_front))]
+#[tactic(auto, using(crate::proofs::Prefixes::longest_short, crate::proofs::Forms::star_prefix))]
 fn star_length(s: &[u8]) -> usize
-    ensures value { result ≡ longest (is_after 42 is_comment_rest) s.now }
+    ensures value { result ≡ longest (is_after star is_comment_rest) s.now }
     ensures within { result ≤ length s.now }
 {
     match s {
@@ -98,8 +98,8 @@ fn star_length(s: &[u8]) -> usize
     }
 }
 
-/// The length of the comment up to `*/` at the front, or 0.
-#[tactic(auto, using(crate::proofs::Fronts::longest_short, crate::proofs::Forms::comment_front))]
+/// The length of the comment up to `*/`, or 0.
+#[tactic(auto, using(crate::proofs::Prefixes::longest_short, crate::proofs::Forms::comment_prefix))]
 fn comment_length(s: &[u8]) -> usize
     ensures value { result ≡ longest is_comment s.now }
     ensures within { result ≤ length s.now }
@@ -116,7 +116,7 @@ fn comment_length(s: &[u8]) -> usize
     }
 }
 
-/// The length of the longest separator at the front, or 0.
+/// The length of the longest separator, or 0.
 #[tactic(auto, using(crate::proofs::Forms::separator_is))]
 pub fn separator_length(s: &[u8]) -> usize
     ensures value { result ≡ longest is_separator s.now }

@@ -2,19 +2,27 @@
 
 ghost use Rattle.std.specs.Prelude.{◌≡◌, ◌≤◌, length, false};
 ghost use Rattle.sv_tree.specs.Longest.{longest};
-ghost use Rattle.sv_tree.specs.Tokens.{is_string_rest, is_string, escapes};
-ghost use Rattle.sv_lex.specs.Quoting.{closes, breaks, slashes};
+ghost use Rattle.sv_tree.specs.Tokens.{is_string_rest, is_string};
+ghost use Rattle.sv_lex.specs.Quoting.{allowed, closes, breaks, slashes};
 
-use crate::letters::lifted;
+use crate::letters::{is_on_line, lifted};
 
-/// Whether a byte may stand after a `\`: one of the four, or any but a newline.
-fn is_escape(four: bool, c: u8) -> bool
-    ensures { result ≡ escapes four c }
+/// Which bytes may stand after a `\`.
+#[derive(Clone, Copy, PartialEq, Eq, Debug)]
+pub enum Escape {
+    /// `n`, `t`, `\` and `"`.
+    Known,
+    /// Any but a newline.
+    Any,
+}
+
+/// Whether a byte may stand after a `\`.
+fn is_allowed(escape: Escape, c: u8) -> bool
+    ensures { result ≡ allowed escape c }
 {
-    if four {
-        c == b'n' || c == b't' || c == b'\\' || c == b'"'
-    } else {
-        c != b'\n'
+    match escape {
+        Escape::Known => c == b'n' || c == b't' || c == b'\\' || c == b'"',
+        Escape::Any => is_on_line(c),
     }
 }
 
@@ -26,11 +34,11 @@ fn closes(after_slash: bool, c: u8) -> bool
 }
 
 /// Whether this byte cannot stand there.
-fn breaks(four: bool, after_slash: bool, c: u8) -> bool
-    ensures { result ≡ breaks four after_slash c }
+fn breaks(escape: Escape, after_slash: bool, c: u8) -> bool
+    ensures { result ≡ breaks escape after_slash c }
 {
     if after_slash {
-        return !is_escape(four, c);
+        return !is_allowed(escape, c);
     }
     c == b'\n'
 }
@@ -43,9 +51,9 @@ fn slashes(after_slash: bool, c: u8) -> bool
 }
 
 /// After the first quote.
-#[tactic(auto, using(crate::proofs::Fronts::over_start, crate::proofs::Forms::string_found, crate::proofs::Forms::string_broken, crate::proofs::Forms::string_goes, crate::proofs::Forms::string_done))]
-fn string_rest_length(s: &[u8], four: bool) -> usize
-    ensures value { result ≡ longest (is_string_rest (escapes four) false) s.now }
+#[tactic(auto, using(crate::proofs::Prefixes::over_start, crate::proofs::Forms::string_found, crate::proofs::Forms::string_broken, crate::proofs::Forms::string_goes, crate::proofs::Forms::string_done))]
+fn string_rest_length(s: &[u8], escape: Escape) -> usize
+    ensures value { result ≡ longest (is_string_rest (allowed escape) false) s.now }
     ensures within { result ≤ length s.now }
 {
     let mut after_slash = false;
@@ -55,7 +63,7 @@ fn string_rest_length(s: &[u8], four: bool) -> usize
         if closes(after_slash, c) {
             return i + 1;
         }
-        if breaks(four, after_slash, c) {
+        if breaks(escape, after_slash, c) {
             return 0;
         }
         after_slash = slashes(after_slash, c);
@@ -64,16 +72,16 @@ fn string_rest_length(s: &[u8], four: bool) -> usize
     0
 }
 
-/// With `four`, one of the four letters stands after each `\`.
-#[tactic(auto, using(crate::proofs::Fronts::longest_short, crate::proofs::Forms::string_front))]
-pub fn string_length(s: &[u8], four: bool) -> usize
-    ensures value { result ≡ longest (is_string (escapes four)) s.now }
+/// The length of the longest string literal that the text begins with, or 0.
+#[tactic(auto, using(crate::proofs::Prefixes::longest_short, crate::proofs::Forms::string_prefix))]
+pub fn string_length(s: &[u8], escape: Escape) -> usize
+    ensures value { result ≡ longest (is_string (allowed escape)) s.now }
     ensures within { result ≤ length s.now }
 {
     match s {
         [c, rest @ ..] => {
             if *c == b'"' {
-                lifted(string_rest_length(rest, four))
+                lifted(string_rest_length(rest, escape))
             } else {
                 0
             }

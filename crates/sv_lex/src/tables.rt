@@ -10,7 +10,7 @@ use crate::letters::is_word_part;
 use sv_tree::{Kind, SIGNS, UNUSED, WORDS};
 
 /// Whether two texts begin with different bytes.
-#[tactic(auto, using(crate::proofs::Fronts::apart, crate::proofs::Fronts::apart_from_none, crate::proofs::Fronts::none_apart))]
+#[tactic(auto, using(crate::proofs::Prefixes::apart, crate::proofs::Prefixes::apart_from_none, crate::proofs::Prefixes::none_apart))]
 fn begin_apart(word: &[u8], s: &[u8]) -> bool
     ensures { result ≡ begin_apart word.now s.now }
 {
@@ -25,8 +25,8 @@ fn begin_apart(word: &[u8], s: &[u8]) -> bool
     }
 }
 
-/// The length of a word, where it stands at the front.
-#[tactic(auto, using(crate::proofs::Fronts::longest_word, crate::proofs::Fronts::no_front))]
+/// The length of a word, where the text begins with it, or 0.
+#[tactic(auto, using(crate::proofs::Prefixes::longest_word, crate::proofs::Prefixes::no_prefix))]
 fn word_length(word: &[u8], s: &[u8]) -> usize
     ensures value { result ≡ longest (is_word word.now) s.now }
     ensures within { result ≤ length s.now }
@@ -37,7 +37,7 @@ fn word_length(word: &[u8], s: &[u8]) -> usize
     if s.starts_with(word) { word.len() } else { 0 }
 }
 
-/// The longest word of a table at the front.
+/// The length of the longest word of a table that the text begins with, or 0.
 pub fn spelled_length(table: &[(&str, Kind)], s: &[u8]) -> usize
     ensures value { result ≡ longest (is_spelled (map (λ x. (x.0.now, x.1)) table.now)) s.now }
     ensures within { result ≤ length s.now }
@@ -101,8 +101,8 @@ fn is_alone(c: u8) -> bool
         || c == b'}'
 }
 
-/// The length of the longest operator at the front, or 0. None begins with a letter, a digit or `_`.
-#[tactic(auto, using(crate::proofs::Fronts::longest_short, crate::proofs::SignLaws::no_sign, crate::proofs::SignLaws::one_sign))]
+/// The length of the longest operator, or 0. None begins with a letter, a digit or `_`.
+#[tactic(auto, using(crate::proofs::Prefixes::longest_short, crate::proofs::SignLaws::no_sign, crate::proofs::SignLaws::one_sign))]
 pub fn sign_length(s: &[u8]) -> usize
     ensures value { result ≡ longest (is_spelled signs) s.now }
     ensures within { result ≤ length s.now }

@@ -3,7 +3,7 @@ use Rattle.std.proofs.Common.{◌≡◌, ℕ, zero, suc, ◌-◌, ◌^◌, ◌�
 use Rattle.std.proofs.lemmas.Nat.Bits.{bit_at_ones, bit_at-zero}
 use Rattle.sv_value.specs.declared.word.Sym.TheVariants.{Zero, Z}
 use Rattle.sv_value.specs.Vector.{symbols_of}
-use Rattle.sv_value.specs.Words.{replicate-symbols_of, symbol_cong}
+use Rattle.sv_value.proofs.Words.{replicate-symbols_of, symbol_cong}
 use Rattle.sv_flat.specs.Effects.Writes.{changed_at}
 
 -- ---- places

@@ -2,6 +2,7 @@
 use Rattle.std.specs.Prelude.{ℕ, ◌+◌, Bool, ◌||◌, List, length, drop, Option, Some, None, if◌then◌else◌, ◌==◌, codes}
 use Rattle.std.specs.List.{starts_with, prefix_len}
 use Rattle.std.specs.Bool.{nat_eq}
+use Prim.Native.Char.{code}
 use Rattle.sv_tree.specs.Tokens.{is_name_part}
 
 infixl 10 ◌>>=◌
@@ -11,11 +12,11 @@ None >>= f = None
 
 -- blanks and tabs
 abbrev pub is_space : ℕ → Bool
-is_space c = c == 32 || c == 9
+is_space c = c == code " " || c == code "\t"
 
 -- each of these answers what is left of the text after it
 
--- a word at the front
+-- a word that the text begins with
 unfoldable pub after_word : List ℕ → List ℕ → Option (List ℕ)
 after_word word s = if starts_with nat_eq s word then Some (drop (length word) s) else None
 

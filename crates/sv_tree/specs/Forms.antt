@@ -7,22 +7,23 @@ use Rattle.sv_grammar.specs.Code.Code.{One, Done, Seq, Map, Alt, Rep, Inner}
 use Rattle.sv_tree.specs.declared.kind.Kind.{Kind}
 use Rattle.sv_tree.specs.declared.kind.Kind.TheVariants as k
 use Rattle.sv_tree.specs.declared.word.Name.{Name}
+use Rattle.sv_tree.specs.declared.word.Precedence.{Precedence}
 use Rattle.sv_tree.specs.Codes.{code}
 use Rattle.sv_tree.specs.Expr as tree
-use Rattle.sv_tree.specs.Written as written
+use Rattle.sv_tree.specs.Types as types
 use Rattle.sv_tree.specs.Stmt as stmts
 
 -- the productions that stand inside others, one deeper
 pub data Production : Type 0 where
   Expression : Production
-  -- unary, and the binary operators up to a level
-  Level : ℕ → Production
+  -- the right operand of an operator of this precedence: it holds operators that bind more strongly
+  Level : Precedence → Production
   Arguments : Production
   Repeated : Production
   Target : Production
   A_type : Production
   Statement : Production
-  -- what follows the name at the front of a statement
+  -- what follows the name that a statement begins with
   Named : Production
   -- a statement that begins with no name
   Unnamed : Production
@@ -40,11 +41,11 @@ pub record Bracketed : Type 0 where
 -- the trees of each
 abbrev pub Value : Production → Type 0
 Value Expression = tree.Expr
-Value (Level n) = tree.Expr
+Value (Level p) = tree.Expr
 Value Arguments = Bracketed
 Value Repeated = Bracketed
 Value Target = tree.Lval
-Value A_type = written.Written
+Value A_type = types.WrittenType
 Value Statement = stmts.Stmt
 Value Named = Tok → stmts.Stmt
 Value Unnamed = Placed
@@ -88,17 +89,17 @@ infixl 40 ◌◂◌
 abbrev pub ◌◂◌ : {A : Type 0} → C A → Kind → C A
 a ◂ t = Map (λ p. p.0) (Seq a (tok t))
 
--- one after the other
-abbrev pub both : {A B R : Type 0} → (A → B → R) → C A → C B → C R
-both f a b = Map (λ p. f p.0 p.1) (Seq a b)
+-- two in a row
+abbrev pub pair : {A B R : Type 0} → (A → B → R) → C A → C B → C R
+pair f a b = Map (λ p. f p.0 p.1) (Seq a b)
 
 -- three in a row
-abbrev pub three : {A B D R : Type 0} → (A → B → D → R) → C A → C B → C D → C R
-three f a b c = Map (λ p. f p.0 p.1.0 p.1.1) (Seq a (Seq b c))
+abbrev pub triple : {A B D R : Type 0} → (A → B → D → R) → C A → C B → C D → C R
+triple f a b c = Map (λ p. f p.0 p.1.0 p.1.1) (Seq a (Seq b c))
 
 -- four in a row
-abbrev pub four : {A B D E R : Type 0} → (A → B → D → E → R) → C A → C B → C D → C E → C R
-four f a b c d = Map (λ p. f p.0 p.1.0 p.1.1.0 p.1.1.1) (Seq a (Seq b (Seq c d)))
+abbrev pub quadruple : {A B D E R : Type 0} → (A → B → D → E → R) → C A → C B → C D → C E → C R
+quadruple f a b c d = Map (λ p. f p.0 p.1.0 p.1.1.0 p.1.1.1) (Seq a (Seq b (Seq c d)))
 
 -- a, and what follows it, which takes in a
 abbrev pub then_ : {A B : Type 0} → C A → C (A → B) → C B
@@ -122,7 +123,7 @@ commas a = Rep (comma a)
 
 -- list(a)
 abbrev pub list : {A : Type 0} → C A → C (List A)
-list a = both (λ x xs. x ∷ xs) a (commas a)
+list a = pair (λ x xs. x ∷ xs) a (commas a)
 
 -- [list(a)]
 abbrev pub list_or_none : {A : Type 0} → C A → C (List A)

@@ -1,35 +1,22 @@
 -- The grammar: the table of the productions that stand inside others, and what a list of tokens spells.
-use Rattle.std.specs.Prelude.{ℕ, zero, suc, false, List, [], ◌∷◌, ◌++◌}
+use Rattle.std.specs.Prelude.{ℕ, false, List, [], ◌∷◌, ◌++◌}
 use Rattle.sv_grammar.specs.Tokens.{Tok}
 use Rattle.sv_grammar.specs.Info.{Info}
 use Rattle.sv_grammar.specs.Language.{Lang, Out}
 use Rattle.sv_grammar.specs.Code.{read, readers, texts, below}
 use Rattle.sv_tree.specs.declared.kind.Kind.{Kind}
 use Rattle.sv_tree.specs.declared.kind.Kind.TheVariants as k
+use Rattle.sv_tree.specs.declared.word.Precedence.{Precedence}
 use Rattle.sv_tree.specs.Codes.{code}
 use Rattle.sv_tree.specs.Forms.{Production, Expression, Level, Arguments, Repeated, Target, A_type, Statement, Named, Unnamed, Value, C, codes_of, kinds_of}
-use Rattle.sv_tree.specs.ExprGrammar.{unary, unary_words, binary_words, levels, expr, arguments, repeated, lval}
+use Rattle.sv_tree.specs.ExprGrammar.{unary, unary_words, binary_words, stronger, precedences, levels, expr, arguments, repeated, lval}
 use Rattle.sv_tree.specs.TypeGrammar.{type}
 use Rattle.sv_tree.specs.StmtGrammar.{stmt, named_statement, unnamed, assign_words}
-
--- a level is one of the eleven
-abbrev pub rank : ℕ → ℕ
-rank zero = 0
-rank (suc zero) = 1
-rank (suc (suc zero)) = 2
-rank (suc (suc (suc zero))) = 3
-rank (suc (suc (suc (suc zero)))) = 4
-rank (suc (suc (suc (suc (suc zero))))) = 5
-rank (suc (suc (suc (suc (suc (suc zero)))))) = 6
-rank (suc (suc (suc (suc (suc (suc (suc zero))))))) = 7
-rank (suc (suc (suc (suc (suc (suc (suc (suc zero)))))))) = 8
-rank (suc (suc (suc (suc (suc (suc (suc (suc (suc zero))))))))) = 9
-rank (suc (suc (suc (suc (suc (suc (suc (suc (suc (suc n)))))))))) = 10
 
 -- what each of the productions stands for
 abbrev pub table : (n : Production) → C (Value n)
 table Expression = expr
-table (Level n) = levels unary (rank n)
+table (Level p) = levels unary (stronger p)
 table Arguments = arguments
 table Repeated = repeated
 table Target = lval
@@ -42,7 +29,10 @@ table Unnamed = unnamed
 
 -- what begins an operand without an operator before it
 abbrev pub prim_first : List ℕ
-prim_first = codes_of (k.Number ∷ k.TimeLiteral ∷ k.StringLiteral ∷ k.Null ∷ k.Dollar ∷ k.LeftParenthesis ∷ k.Name ∷ k.This ∷ k.Super ∷ k.SystemName ∷ k.LeftBrace ∷ k.Bit ∷ k.Logic ∷ k.Reg ∷ k.Byte ∷ k.Shortint ∷ k.Int ∷ k.Longint ∷ k.Integer ∷ k.Time ∷ k.String ∷ k.Event ∷ k.Semaphore ∷ k.Mailbox ∷ [])
+prim_first =
+    codes_of (k.Number ∷ k.TimeLiteral ∷ k.StringLiteral ∷ k.Null ∷ k.Dollar ∷ k.LeftParenthesis ∷ k.Name ∷ k.This ∷
+    k.Super ∷ k.SystemName ∷ k.LeftBrace ∷ k.Bit ∷ k.Logic ∷ k.Reg ∷ k.Byte ∷ k.Shortint ∷ k.Int ∷ k.Longint ∷
+    k.Integer ∷ k.Time ∷ k.String ∷ k.Event ∷ k.Semaphore ∷ k.Mailbox ∷ [])
 
 -- what begins an expression
 abbrev pub expr_first : List ℕ
@@ -52,10 +42,10 @@ expr_first = kinds_of unary_words ++ prim_first
 abbrev pub operand_goes_on : List ℕ
 operand_goes_on = codes_of (k.LeftParenthesis ∷ k.LeftBracket ∷ k.Dot ∷ k.ColonColon ∷ k.Apostrophe ∷ [])
 
--- the operators of the levels below n
-abbrev pub operators_below : ℕ → List ℕ
-operators_below zero = []
-operators_below (suc n) = kinds_of (binary_words n) ++ operators_below n
+-- the binary operators of precedences
+abbrev pub operators_of : List Precedence → List ℕ
+operators_of [] = []
+operators_of (p ∷ ps) = kinds_of (binary_words p) ++ operators_of ps
 
 -- what begins a type, but for a name
 abbrev pub type_words : List Kind
@@ -63,16 +53,19 @@ type_words = k.Logic ∷ k.Bit ∷ k.Reg ∷ k.String ∷ k.Event ∷ k.Byte ∷
 
 -- what begins a statement without a label that begins with no name
 abbrev pub unnamed_first : List ℕ
-unnamed_first = codes_of (k.SystemName ∷ k.Void ∷ k.Begin ∷ k.Fork ∷ k.If ∷ k.Case ∷ k.Casez ∷ k.Casex ∷ k.For ∷ k.While ∷ k.Do ∷ k.Repeat ∷ k.Forever ∷ k.Foreach ∷ k.Wait ∷ k.Disable ∷ k.Break ∷ k.Continue ∷ k.Return ∷ k.This ∷ k.Super ∷ k.Semicolon ∷ k.LeftBrace ∷ k.Hash ∷ k.HashHash ∷ k.At ∷ k.Arrow ∷ k.PlusPlus ∷ k.MinusMinus ∷ [])
+unnamed_first =
+    codes_of (k.SystemName ∷ k.Void ∷ k.Begin ∷ k.Fork ∷ k.If ∷ k.Case ∷ k.Casez ∷ k.Casex ∷ k.For ∷ k.While ∷ k.Do ∷
+    k.Repeat ∷ k.Forever ∷ k.Foreach ∷ k.Wait ∷ k.Disable ∷ k.Break ∷ k.Continue ∷ k.Return ∷ k.This ∷ k.Super ∷
+    k.Semicolon ∷ k.LeftBrace ∷ k.Hash ∷ k.HashHash ∷ k.At ∷ k.Arrow ∷ k.PlusPlus ∷ k.MinusMinus ∷ [])
 
--- what follows the name at the front of a statement
+-- what follows the name that a statement begins with
 abbrev pub named_first : List ℕ
 named_first = codes_of (k.Semicolon ∷ k.Colon ∷ k.LeftParenthesis ∷ k.LeftBracket ∷ k.Dot ∷ k.ColonColon ∷ k.Equals ∷ k.LessEquals ∷ k.PlusPlus ∷ k.MinusMinus ∷ []) ++ kinds_of assign_words
 
 -- what is known of each
 abbrev pub heads : Production → Info
-heads Expression = record { first = expr_first; cont = code k.Question ∷ operand_goes_on ++ operators_below 11; null = false }
-heads (Level n) = record { first = expr_first; cont = operand_goes_on ++ operators_below (rank n); null = false }
+heads Expression = record { first = expr_first; cont = code k.Question ∷ operand_goes_on ++ operators_of precedences; null = false }
+heads (Level p) = record { first = expr_first; cont = operand_goes_on ++ operators_of (stronger p); null = false }
 heads Arguments = record { first = codes_of (k.LeftParenthesis ∷ []); cont = []; null = false }
 heads Repeated = record { first = codes_of (k.LeftBrace ∷ []); cont = []; null = false }
 heads Target = record { first = codes_of (k.Name ∷ k.This ∷ k.Super ∷ k.LeftBrace ∷ []); cont = codes_of (k.LeftParenthesis ∷ k.LeftBracket ∷ k.Dot ∷ k.ColonColon ∷ []); null = false }
@@ -84,7 +77,7 @@ heads Unnamed = record { first = unnamed_first; cont = codes_of (k.Colon ∷ [])
 -- the least depth of a tree of each
 abbrev pub need : Production → ℕ
 need Expression = 0
-need (Level n) = 0
+need (Level p) = 0
 need Arguments = 0
 need Repeated = 1
 need Target = 0
@@ -95,7 +88,7 @@ need Unnamed = 0
 
 -- ---- what is read
 
--- what reading a code gives at a budget, which is 200 less the depth around it
+-- what reading a code gives at a budget, which is most_depth less the depth around it
 abbrev pub reads : {A : Type 0} → ℕ → C A → List Tok → Out A
 reads d c ts = read Production Value heads need (readers Production Value heads need table d) d c ts
 

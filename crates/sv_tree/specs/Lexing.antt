@@ -1,7 +1,8 @@
 -- The tokens of a text, the time scales that it sets, and its first lexical fault (IEEE 1800-2017, 5.2 to 5.4).
-use Rattle.std.specs.Prelude.{◌≡◌, ℕ, zero, suc, ◌+◌, ◌-◌, Bool, true, false, ◌&&◌, ◌||◌, List, [], ◌∷◌, length, take, Option, Some, None, if◌then◌else◌, ◌==◌, nat_lt, is_some, is_err, codes}
+use Rattle.std.specs.Prelude.{◌≡◌, ℕ, zero, suc, ◌+◌, ◌-◌, ◌^◌, Bool, true, false, ◌&&◌, ◌||◌, List, [], ◌∷◌, length, take, Option, Some, None, if◌then◌else◌, ◌==◌, nat_lt, is_some, is_err, codes}
 use Rattle.std.specs.List.{list_all, starts_with}
 use Rattle.std.specs.Bool.{nat_eq}
+use Prim.Native.Char.{code}
 use Rattle.sv_value.specs.declared.place.Place.{Place}
 use Rattle.sv_tree.specs.declared.kind.Kind.{Kind}
 use Rattle.sv_tree.specs.declared.kind.Kind.TheVariants as kinds
@@ -11,9 +12,8 @@ use Rattle.sv_tree.specs.declared.token.Refused.{Refused}
 use Rattle.sv_tree.specs.declared.token.Refused.TheVariants as refused
 use Rattle.sv_tree.specs.declared.token.Piece.{Piece}
 use Rattle.sv_tree.specs.declared.token.Piece.TheVariants as pieces
-use Rattle.sv_tree.specs.declared.token.TheConstants.{MOST_TOKENS}
 use Rattle.sv_tree.specs.Longest.{longest}
-use Rattle.sv_tree.specs.Tokens.{kind_of, is_number, is_string, escapes, is_on_line, is_nil, is_one, is_after}
+use Rattle.sv_tree.specs.Tokens.{kind_of, is_number, is_string, is_on_line, is_nil, is_one, is_after}
 use Rattle.sv_digits.specs.Literal.{literal_of}
 use Rattle.sv_tree.specs.Directives.{timescale_at, nettype_at}
 
@@ -21,24 +21,31 @@ use Rattle.sv_tree.specs.Directives.{timescale_at, nettype_at}
 
 -- a blank, a tab, a newline or a carriage return
 abbrev pub is_blank_byte : ℕ → Bool
-is_blank_byte c = c == 32 || c == 9 || c == 10 || c == 13
+is_blank_byte c = c == code " " || c == code "\t" || c == code "\n" || c == code "\r"
 
 -- one of these
 unfoldable pub is_blank : List ℕ → Bool
 is_blank w = is_one is_blank_byte w
 
+-- the bytes of / and *
+abbrev pub slash : ℕ
+slash = code "/"
+
+abbrev pub star : ℕ
+star = code "*"
+
 -- // and the rest of the line
 unfoldable pub is_line_comment : List ℕ → Bool
-is_line_comment w = is_after 47 (is_after 47 (list_all is_on_line)) w
+is_line_comment w = is_after slash (is_after slash (list_all is_on_line)) w
 
 -- up to the first */
 unfoldable pub is_comment_rest : List ℕ → Bool
-is_comment_rest (c ∷ d ∷ cs) = if c == 42 && d == 47 then is_nil cs else is_comment_rest (d ∷ cs)
+is_comment_rest (c ∷ d ∷ cs) = if c == star && d == slash then is_nil cs else is_comment_rest (d ∷ cs)
 is_comment_rest w = false
 
 -- "/*" up to the first "*/"
 unfoldable pub is_comment : List ℕ → Bool
-is_comment w = is_after 47 (is_after 42 is_comment_rest) w
+is_comment w = is_after slash (is_after star is_comment_rest) w
 
 -- what separates tokens (5.3, 5.4)
 unfoldable pub is_separator : List ℕ → Bool
@@ -52,7 +59,7 @@ is_token w = is_some (kind_of w)
 
 -- where no token can be read: a string literal that is cut by its line's end, or a bad byte
 unfoldable pub no_token : List ℕ → Refused
-no_token s = if starts_with nat_eq s (34 ∷ []) && (longest (is_string (escapes false)) s == 0) then refused.OpenText else refused.BadByte
+no_token s = if starts_with nat_eq s (codes "\"") && (longest (is_string is_on_line) s == 0) then refused.OpenText else refused.BadByte
 
 -- a token; a number may be refused
 unfoldable pub token_piece : List ℕ → ℕ → Option Kind → Piece
@@ -65,7 +72,7 @@ directive_piece s (Some x) o = pieces.Scale x.0.0 x.0.1 (length s - length x.1)
 directive_piece s None (Some rest) = pieces.Passed (length s - length rest)
 directive_piece s None None = pieces.Nothing refused.Directive
 
--- the longest piece at the front of a text
+-- what a text begins with
 unfoldable pub piece_at : List ℕ → Piece
 piece_at s =
     if nat_lt 0 (longest is_separator s) then pieces.Passed (longest is_separator s)
@@ -77,7 +84,7 @@ piece_at s =
 
 -- the place after a byte
 unfoldable pub after : ℕ → Place → Place
-after c p = if c == 10 then record { file = p.file; line = p.line + 1; col = 1 } else record { file = p.file; line = p.line; col = p.col + 1 }
+after c p = if c == code "\n" then record { file = p.file; line = p.line + 1; col = 1 } else record { file = p.file; line = p.line; col = p.col + 1 }
 
 -- the first place of a file
 unfoldable pub start : ℕ → Place
@@ -122,12 +129,16 @@ with_scale t r = record { tokens = r.tokens; scales = t ∷ r.scales; fault = r.
 abbrev pub stopped : Refused → Place → Reading
 stopped why at = record { tokens = []; scales = []; fault = Some (why, at) }
 
+-- the greatest number of tokens of a text, without the one for its end (own)
+abbrev pub most_tokens : ℕ
+most_tokens = 2 ^ 21
+
 -- a piece, and what others say of the text after it; count is the number of tokens before
 unfoldable pub with_piece : Piece → ℕ → Place → List ℕ → (ℕ → ℕ → Reading) → Reading
 with_piece (pieces.Passed n) count at s others = others count n
 with_piece (pieces.Scale unit precision n) count at s others = with_scale (scale_of unit precision at) (others count n)
 with_piece (pieces.Token k n) count at s others =
-    if count == MOST_TOKENS then stopped refused.TooManyTokens at
+    if count == most_tokens then stopped refused.TooManyTokens at
     else with_token (token_of k at (take n s)) (others (count + 1) n)
 with_piece (pieces.Nothing why) count at s others = stopped why at
 

@@ -19,10 +19,10 @@ use Rattle.sv_tree.specs.declared.word.StepWord.TheVariants as step_word
 use Rattle.sv_tree.specs.declared.expr.Root.{Root}
 use Rattle.sv_tree.specs.declared.expr.Root.TheVariants as root
 use Rattle.sv_tree.specs.Expr as tree
-use Rattle.sv_tree.specs.Written as written
+use Rattle.sv_tree.specs.Types as types
 use Rattle.sv_tree.specs.Stmt as stmts
-use Rattle.sv_tree.specs.Forms.{Named, Unnamed, Placed, C, Words, tok, any_of, word, chosen, ◌▸◌, ◌◂◌, both, three, four, then_, optional, otherwise, list, in_parentheses, in_brackets, name_of, name, label, statement, stacked, exprs}
-use Rattle.sv_tree.specs.ExprGrammar.{expr, lval, targets, suffixes, scoped, named_root, this_post, super_post, system_call, super_new, call, maybe_arguments}
+use Rattle.sv_tree.specs.Forms.{Named, Unnamed, Placed, C, Words, tok, any_of, word, chosen, ◌▸◌, ◌◂◌, pair, triple, quadruple, then_, optional, otherwise, list, in_parentheses, in_brackets, name_of, name, label, statement, stacked, exprs}
+use Rattle.sv_tree.specs.ExprGrammar.{expr, lval, targets, suffixes, scoped, named_root, this_post, super_post, system_call, call, maybe_actuals}
 use Rattle.sv_tree.specs.TypeGrammar.{word_type, init, word_decl, named_decl_rest}
 
 -- a form, at a place
@@ -31,26 +31,30 @@ placed at b = record { at = at; body = b }
 
 -- a form that a word begins, at the word
 abbrev pub form : Kind → C stmts.Body → C Placed
-form t b = both (λ t b. placed t.at b) (tok t) b
+form t b = pair (λ t b. placed t.at b) (tok t) b
 
 -- ---- parts
+
+-- "(" expr ")", no deeper than what stands in it
+unfoldable pub enclosed : C tree.Expr
+enclosed = pair (λ t e. tree.Group t.at e) (tok k.LeftParenthesis) (expr ◂ k.RightParenthesis)
 
 -- number | time | id | "(" expr ")"
 unfoldable pub amount : C tree.Expr
 amount =
     Alt (Map (λ t. tree.Number t.at t.text) (tok k.Number))
     (Alt (Map (λ t. tree.Time t.at t.text) (tok k.TimeLiteral))
-    (Alt (Map (λ n. tree.Post (root.Plain n) tree.NoSuffix) name) (in_parentheses expr)))
+    (Alt (Map (λ n. tree.Expr.Post (root.Plain n) tree.NoSuffix) name) enclosed))
 
 -- delay = "#" (number | time | id | "(" expr ")")
 unfoldable pub delay : C stmts.Delay
-delay = both (λ t e. record { at = t.at; amount = e }) (tok k.Hash) amount
+delay = pair (λ t e. record { at = t.at; amount = e }) (tok k.Hash) amount
 
 -- number | id | "(" expr ")"
 unfoldable pub cycles_amount : C tree.Expr
 cycles_amount =
     Alt (Map (λ t. tree.Number t.at t.text) (tok k.Number))
-    (Alt (Map (λ n. tree.Post (root.Plain n) tree.NoSuffix) name) (in_parentheses expr))
+    (Alt (Map (λ n. tree.Expr.Post (root.Plain n) tree.NoSuffix) name) enclosed)
 
 -- "posedge" | "negedge"
 abbrev pub edge_words : Words EdgeWord
@@ -62,7 +66,7 @@ edge = otherwise edge_word.Unwritten (Map (λ t. chosen edge_word.Negedge edge_w
 
 -- ev = ["posedge" | "negedge"] expr ["iff" expr]
 unfoldable pub event_part : C stmts.EventPart
-event_part = three (λ w e c. record { edge = w; expr = e; condition = c }) edge expr (optional (k.Iff ▸ expr))
+event_part = triple (λ w e c. record { edge = w; expr = e; condition = c }) edge expr (optional (k.Iff ▸ expr))
 
 -- ("or" | ",") ev
 unfoldable pub next_event_part : C stmts.EventPart
@@ -70,7 +74,7 @@ next_event_part = Map (λ p. p.1) (Seq (any_of (k.Or ∷ k.Comma ∷ [])) event_
 
 -- ev {("or" | ",") ev}
 unfoldable pub event_parts : C (List stmts.EventPart)
-event_parts = both (λ p ps. p ∷ ps) event_part (Rep next_event_part)
+event_parts = pair (λ p ps. p ∷ ps) event_part (Rep next_event_part)
 
 -- "*" ")" | ev {("or" | ",") ev} ")"
 unfoldable pub event_list : C stmts.Event
@@ -79,17 +83,27 @@ event_list = Alt (Map (λ t. stmts.Star) (tok k.Star ◂ k.RightParenthesis)) (M
 -- event = id | "*" | "(" "*" ")" | "(" ev {("or" | ",") ev} ")"
 unfoldable pub event : C stmts.Event
 event =
-    Alt (Map stmts.On name)
+    Alt (Map stmts.Event.Named name)
     (Alt (Map (λ t. stmts.Star) (tok k.Star))
     (k.LeftParenthesis ▸ event_list))
 
 -- aop
 abbrev pub assign_words : Words BinaryWord
-assign_words = (k.PlusEquals, binary_word.Plus) ∷ (k.MinusEquals, binary_word.Minus) ∷ (k.StarEquals, binary_word.Times) ∷ (k.SlashEquals, binary_word.Over) ∷ (k.PercentEquals, binary_word.Remainder) ∷ (k.AmpersandEquals, binary_word.And) ∷ (k.BarEquals, binary_word.Or) ∷ (k.CaretEquals, binary_word.Xor) ∷ (k.ShiftLeftEquals, binary_word.ShiftLeft) ∷ (k.ShiftRightEquals, binary_word.ShiftRight) ∷ (k.ShiftLeftSignedEquals, binary_word.ShiftLeftSigned) ∷ (k.ShiftRightSignedEquals, binary_word.ShiftRightSigned) ∷ []
+assign_words =
+    (k.PlusEquals, binary_word.Plus) ∷ (k.MinusEquals, binary_word.Minus) ∷ (k.StarEquals, binary_word.Multiply) ∷
+    (k.SlashEquals, binary_word.Divide) ∷ (k.PercentEquals, binary_word.Remainder) ∷
+    (k.AmpersandEquals, binary_word.And) ∷ (k.BarEquals, binary_word.Or) ∷ (k.CaretEquals, binary_word.Xor) ∷
+    (k.ShiftLeftEquals, binary_word.ShiftLeft) ∷ (k.ShiftRightEquals, binary_word.ShiftRight) ∷
+    (k.ShiftLeftSignedEquals, binary_word.ShiftLeftSigned) ∷ (k.ShiftRightSignedEquals, binary_word.ShiftRightSigned) ∷
+    []
 
 -- the operator of an assignment
 abbrev pub assign_word : Tok → BinaryWord
 assign_word t = chosen binary_word.ShiftRightSigned assign_words t.code
+
+-- an assignment with an operator, of its parts
+abbrev pub operated : tree.Lval → Tok → tree.Expr → stmts.OperatorAssignment
+operated l t e = record { target = l; word = assign_word t; value = e }
 
 -- "++" | "--"
 abbrev pub step_words : Words StepWord
@@ -102,36 +116,36 @@ step_word_of t = chosen step_word.Decrement step_words t.code
 -- ---- assignments and calls
 
 -- "=" [delay] init ";"
-unfoldable pub assign_now : C (tree.Lval → stmts.Body)
-assign_now = both (λ d i l. stmts.Assign l d i) (k.Equals ▸ optional delay) (init ◂ k.Semicolon)
+unfoldable pub blocking_rest : C (tree.Lval → stmts.Body)
+blocking_rest = pair (λ d i l. stmts.Blocking (record { target = l; delay = d; value = i })) (k.Equals ▸ optional delay) (init ◂ k.Semicolon)
 
 -- "<=" [delay] expr ";"
-unfoldable pub assign_later : C (tree.Lval → stmts.Body)
-assign_later = both (λ d e l. stmts.Later l d e) (k.LessEquals ▸ optional delay) (expr ◂ k.Semicolon)
+unfoldable pub nonblocking_rest : C (tree.Lval → stmts.Body)
+nonblocking_rest = pair (λ d e l. stmts.Nonblocking (record { target = l; delay = d; value = e })) (k.LessEquals ▸ optional delay) (expr ◂ k.Semicolon)
 
 -- aop expr ";"
-unfoldable pub assign_by : C (tree.Lval → stmts.Body)
-assign_by = both (λ t e l. stmts.Op l (assign_word t) e) (word assign_words) (expr ◂ k.Semicolon)
+unfoldable pub operator_rest : C (tree.Lval → stmts.Body)
+operator_rest = pair (λ t e l. stmts.Body.Operator (operated l t e)) (word assign_words) (expr ◂ k.Semicolon)
 
 -- ("++" | "--") ";"
 unfoldable pub step_after : C (tree.Lval → stmts.Body)
-step_after = Map (λ t l. stmts.Step l (step_word_of t)) (word step_words ◂ k.Semicolon)
+step_after = Map (λ t l. stmts.Body.Step l (step_word_of t)) (word step_words ◂ k.Semicolon)
 
 -- what follows the target of an assignment
 unfoldable pub assign_end : C (tree.Lval → stmts.Body)
-assign_end = Alt assign_now (Alt assign_later (Alt assign_by step_after))
+assign_end = Alt blocking_rest (Alt nonblocking_rest (Alt operator_rest step_after))
 
 -- what follows a name with its suffixes: an assignment to it, or the end of a call
 unfoldable pub post_end : C (Root × tree.Suffixes → stmts.Body)
-post_end = Alt (Map (λ f p. f (tree.Target p.0 p.1)) assign_end) (Map (λ t p. stmts.Call (tree.Post p.0 p.1)) (tok k.Semicolon))
+post_end = Alt (Map (λ f p. f (tree.Lval.Post p.0 p.1)) assign_end) (Map (λ t p. stmts.Call (tree.Expr.Post p.0 p.1)) (tok k.Semicolon))
 
--- what follows the name at the front of an assignment or a call
+-- what follows the name that an assignment or a call begins with
 unfoldable pub named_rest : C (Name → stmts.Body)
-named_rest = three (λ m s f n. f (named_root n m, s)) scoped suffixes post_end
+named_rest = triple (λ m s f n. f (named_root n m, s)) scoped suffixes post_end
 
 -- "new" [actuals] ";" | id {..} ..
 unfoldable pub super_rest : C (Tok → Placed)
-super_rest = Alt (both (λ w b t. placed t.at (stmts.Call (super_new w.at b t))) (tok k.New) (maybe_arguments ◂ k.Semicolon)) (three (λ n s f t. placed t.at (f (root.Super t.at n, s))) name suffixes post_end)
+super_rest = Alt (pair (λ w a t. placed t.at (stmts.Call (tree.SuperNew t.at w.at a))) (tok k.New) (maybe_actuals ◂ k.Semicolon)) (triple (λ n s f t. placed t.at (f (root.Super t.at n, s))) name suffixes post_end)
 
 -- "super" "." ("new" [actuals] ";" | id {..} ..)
 unfoldable pub super_statement : C Placed
@@ -163,9 +177,9 @@ stmts_of (Made s ∷ is) = stmts.AndStmt s (stmts_of is)
 
 -- a statement without a label
 abbrev pub unlabelled : Placed → stmts.Stmt
-unlabelled p = stmts.At p.at None p.body
+unlabelled p = stmts.Statement p.at None p.body
 
--- what follows a name at the front of an item: a name that a name follows is the type of a declaration
+-- what follows the name that an item begins with: a name that a name follows is the type of a declaration
 unfoldable pub early_rest : C (Tok → BlockItem)
 early_rest = Alt (Map (λ f t. Declared (f (name_of t))) named_decl_rest) (Map (λ f t. Made (f t)) (Inner Named))
 
@@ -195,15 +209,15 @@ fork_of n p = stmts.Fork n (decls_of p.0) (stmts_of p.0) (chosen join_word.None 
 
 -- {decl} {stmt} ("join" | "join_any" | "join_none") [":" id]
 unfoldable pub fork_rest : C (List BlockItem × Tok × Option Name)
-fork_rest = three (λ is j e. (is, j, e)) block_items (word join_words) label
+fork_rest = triple (λ is j e. (is, j, e)) block_items (word join_words) label
 
 -- "begin" [":" id] {decl} {stmt} "end" [":" id]
 unfoldable pub block : C Placed
-block = form k.Begin (both block_of label block_rest)
+block = form k.Begin (pair block_of label block_rest)
 
 -- "fork" [":" id] {decl} {stmt} ("join" | "join_any" | "join_none") [":" id]
 unfoldable pub fork : C Placed
-fork = form k.Fork (both fork_of label fork_rest)
+fork = form k.Fork (pair fork_of label fork_rest)
 
 -- ---- choices and loops
 
@@ -213,7 +227,7 @@ else_ = Opt stmts.If (Map (λ r e s. stmts.IfElse e s r) (k.Else ▸ statement))
 
 -- stmt ["else" stmt]
 unfoldable pub if_rest : C (tree.Expr → stmts.Body)
-if_rest = both (λ s f e. f e s) statement else_
+if_rest = pair (λ s f e. f e s) statement else_
 
 -- "if" "(" expr ")" stmt ["else" stmt]
 unfoldable pub if_ : C Placed
@@ -224,68 +238,68 @@ abbrev pub case_words : Words CaseWord
 case_words = (k.Case, case_word.Exact) ∷ (k.Casez, case_word.Z) ∷ (k.Casex, case_word.X) ∷ []
 
 -- "default" [":"] stmt
-unfoldable pub default_arm : C (stmts.Arms → stmts.Arms)
-default_arm = Map (λ s rest. stmts.Default s rest) (k.Default ▸ Map (λ p. p.1) (Seq (optional (tok k.Colon)) statement))
+unfoldable pub default_item : C (stmts.CaseItems → stmts.CaseItems)
+default_item = Map (λ s rest. stmts.Default s rest) (k.Default ▸ Map (λ p. p.1) (Seq (optional (tok k.Colon)) statement))
 
 -- list(expr) ":" stmt
-unfoldable pub labelled_arm : C (stmts.Arms → stmts.Arms)
-labelled_arm = both (λ es s rest. stmts.Labels (exprs es) s rest) (list expr ◂ k.Colon) statement
+unfoldable pub labelled_item : C (stmts.CaseItems → stmts.CaseItems)
+labelled_item = pair (λ es s rest. stmts.Labels (exprs es) s rest) (list expr ◂ k.Colon) statement
 
 -- list(expr) ":" stmt | "default" [":"] stmt
-unfoldable pub arm : C (stmts.Arms → stmts.Arms)
-arm = Alt default_arm labelled_arm
+unfoldable pub case_item : C (stmts.CaseItems → stmts.CaseItems)
+case_item = Alt default_item labelled_item
 
 -- {list(expr) ":" stmt | "default" [":"] stmt} "endcase"
-unfoldable pub case_rest : C stmts.Arms
-case_rest = Map (stacked stmts.NoArm) (Rep arm) ◂ k.Endcase
+unfoldable pub case_rest : C stmts.CaseItems
+case_rest = Map (stacked stmts.NoCaseItem) (Rep case_item) ◂ k.Endcase
 
 -- ("case" | "casez" | "casex") "(" expr ")" {..} "endcase"
 unfoldable pub case_ : C Placed
-case_ = three (λ t e as_. placed t.at (stmts.Case (chosen case_word.X case_words t.code) e as_)) (word case_words) (in_parentheses expr) case_rest
+case_ = triple (λ t e as_. placed t.at (stmts.Case (chosen case_word.X case_words t.code) e as_)) (word case_words) (in_parentheses expr) case_rest
 
 -- step = lval ("=" | aop) expr | lval ("++" | "--") | ("++" | "--") lval
-unfoldable pub step_rest : C (tree.Lval → Place → stmts.Last)
-step_rest =
-    Alt (Map (λ e l at. stmts.Then l e) (k.Equals ▸ expr))
-    (Alt (both (λ t e l at. stmts.ThenOp l (assign_word t) e) (word assign_words) expr)
-    (Map (λ t l at. stmts.ThenStep at l (step_word_of t)) (word step_words)))
+unfoldable pub for_step_rest : C (tree.Lval → Place → stmts.ForStep)
+for_step_rest =
+    Alt (Map (λ e l at. stmts.ForStep.Assign l e) (k.Equals ▸ expr))
+    (Alt (pair (λ t e l at. stmts.ForStep.Operator (operated l t e)) (word assign_words) expr)
+    (Map (λ t l at. stmts.ForStep.Step at l (step_word_of t)) (word step_words)))
 
 -- the place of the first token of a target
 abbrev pub place_of_target : tree.Lval → Place
-place_of_target (tree.Target r s) = tree.place_of_root r
-place_of_target (tree.Targets at ls) = at
+place_of_target (tree.Post r s) = tree.place_of_root r
+place_of_target (tree.Join at ls) = at
 
 -- ("++" | "--") lval
-unfoldable pub step_before : C stmts.Last
-step_before = both (λ t l. stmts.ThenStep t.at l (step_word_of t)) (word step_words) lval
+unfoldable pub for_step_before : C stmts.ForStep
+for_step_before = pair (λ t l. stmts.ForStep.Step t.at l (step_word_of t)) (word step_words) lval
 
 -- step
-unfoldable pub step : C stmts.Last
-step = Alt (both (λ l f. f l (place_of_target l)) lval step_rest) step_before
+unfoldable pub for_step : C stmts.ForStep
+for_step = Alt (pair (λ l f. f l (place_of_target l)) lval for_step_rest) for_step_before
 
--- what follows a name at the front: id "=" expr, or the rest of a target and "=" expr
-unfoldable pub first_rest : C (Name → stmts.First)
-first_rest = Alt (both (λ n e t. stmts.Declare (written.Named t) n e) name (k.Equals ▸ expr)) (three (λ m s e n. stmts.Begin (tree.Target (named_root n m) s) e) scoped suffixes (k.Equals ▸ expr))
+-- what follows the name that it begins with: id "=" expr, or the rest of a target and "=" expr
+unfoldable pub for_init_rest : C (Name → stmts.ForInit)
+for_init_rest = Alt (pair (λ n e t. stmts.Declare (types.Named t) n e) name (k.Equals ▸ expr)) (triple (λ m s e n. stmts.ForInit.Assign (tree.Lval.Post (named_root n m) s) e) scoped suffixes (k.Equals ▸ expr))
 
 -- a target that begins with no name
 unfoldable pub unnamed_lval : C tree.Lval
-unnamed_lval = Alt (Map (λ p. tree.Target p.0 p.1) this_post) (Alt (Map (λ p. tree.Target p.0 p.1) super_post) targets)
+unnamed_lval = Alt (Map (λ p. tree.Lval.Post p.0 p.1) this_post) (Alt (Map (λ p. tree.Lval.Post p.0 p.1) super_post) targets)
 
 -- type id "=" expr | lval "=" expr
-unfoldable pub first_part : C stmts.First
-first_part = Alt (then_ name first_rest) (Alt (three stmts.Declare word_type name (k.Equals ▸ expr)) (both stmts.Begin unnamed_lval (k.Equals ▸ expr)))
+unfoldable pub for_init : C stmts.ForInit
+for_init = Alt (then_ name for_init_rest) (Alt (triple stmts.Declare word_type name (k.Equals ▸ expr)) (pair stmts.ForInit.Assign unnamed_lval (k.Equals ▸ expr)))
 
 -- "for" "(" .. ";" expr ";" step ")" stmt
 unfoldable pub for_ : C Placed
-for_ = form k.For (four stmts.For (k.LeftParenthesis ▸ first_part ◂ k.Semicolon) (expr ◂ k.Semicolon) (step ◂ k.RightParenthesis) statement)
+for_ = form k.For (quadruple stmts.For (k.LeftParenthesis ▸ for_init ◂ k.Semicolon) (expr ◂ k.Semicolon) (for_step ◂ k.RightParenthesis) statement)
 
 -- "while" "(" expr ")" stmt
 unfoldable pub while_ : C Placed
-while_ = form k.While (both stmts.While (in_parentheses expr) statement)
+while_ = form k.While (pair stmts.While (in_parentheses expr) statement)
 
 -- stmt "while" "(" expr ")" ";"
 unfoldable pub do_rest : C stmts.Body
-do_rest = both stmts.Do statement (k.While ▸ in_parentheses expr ◂ k.Semicolon)
+do_rest = pair stmts.Do statement (k.While ▸ in_parentheses expr ◂ k.Semicolon)
 
 -- "do" stmt "while" "(" expr ")" ";"
 unfoldable pub do_ : C Placed
@@ -293,7 +307,7 @@ do_ = form k.Do do_rest
 
 -- "repeat" "(" expr ")" stmt
 unfoldable pub repeat : C Placed
-repeat = form k.Repeat (both stmts.Repeat (in_parentheses expr) statement)
+repeat = form k.Repeat (pair stmts.Repeat (in_parentheses expr) statement)
 
 -- "forever" stmt
 unfoldable pub forever : C Placed
@@ -301,23 +315,23 @@ forever = form k.Forever (Map stmts.Forever statement)
 
 -- "foreach" "(" id "[" id "]" ")" stmt
 unfoldable pub foreach : C Placed
-foreach = form k.Foreach (three stmts.Foreach (k.LeftParenthesis ▸ name) (in_brackets name ◂ k.RightParenthesis) statement)
+foreach = form k.Foreach (triple stmts.Foreach (k.LeftParenthesis ▸ name) (in_brackets name ◂ k.RightParenthesis) statement)
 
 -- delay stmt
 unfoldable pub after : C Placed
-after = both (λ d s. placed d.at (stmts.After d s)) delay statement
+after = pair (λ d s. placed d.at (stmts.After d s)) delay statement
 
 -- "@" event stmt
-unfoldable pub at_event : C Placed
-at_event = form k.At (both stmts.On_event event statement)
+unfoldable pub on_event : C Placed
+on_event = form k.At (pair stmts.On event statement)
 
 -- "##" (number | id | "(" expr ")") stmt
 unfoldable pub cycles : C Placed
-cycles = three (λ t e s. placed t.at (stmts.Cycles t.at e s)) (tok k.HashHash) cycles_amount statement
+cycles = triple (λ t e s. placed t.at (stmts.Cycles t.at e s)) (tok k.HashHash) cycles_amount statement
 
 -- "(" expr ")" stmt | "fork" ";"
 unfoldable pub wait_rest : C (Tok → Placed)
-wait_rest = Alt (both (λ e s t. placed t.at (stmts.Wait t.at e s)) (in_parentheses expr) statement) (Map (λ u t. placed t.at stmts.WaitFork) (k.Fork ▸ tok k.Semicolon))
+wait_rest = Alt (pair (λ e s t. placed t.at (stmts.Wait t.at e s)) (in_parentheses expr) statement) (Map (λ u t. placed t.at stmts.WaitFork) (k.Fork ▸ tok k.Semicolon))
 
 -- "wait" "(" expr ")" stmt | "wait" "fork" ";"
 unfoldable pub wait : C Placed
@@ -325,7 +339,7 @@ wait = then_ (tok k.Wait) wait_rest
 
 -- "void" "'" "(" call ")" ";"
 unfoldable pub ignore : C Placed
-ignore = both (λ t e. placed t.at (stmts.Ignore t.at e)) (tok k.Void ◂ k.Apostrophe) (in_parentheses call ◂ k.Semicolon)
+ignore = pair (λ t e. placed t.at (stmts.Ignore t.at e)) (tok k.Void ◂ k.Apostrophe) (in_parentheses call ◂ k.Semicolon)
 
 -- "return" [expr] ";"
 unfoldable pub return_ : C Placed
@@ -337,7 +351,7 @@ null_statement = form k.Semicolon (Done stmts.Null)
 
 -- ("++" | "--") lval ";"
 unfoldable pub step_statement : C Placed
-step_statement = both (λ t l. placed t.at (stmts.Step l (step_word_of t))) (word step_words) (lval ◂ k.Semicolon)
+step_statement = pair (λ t l. placed t.at (stmts.Body.Step l (step_word_of t))) (word step_words) (lval ◂ k.Semicolon)
 
 -- sysname ["(" [list(expr)] ")"] ";"
 unfoldable pub system_statement : C Placed
@@ -345,11 +359,11 @@ system_statement = Map (λ e. placed (tree.place_of e) (stmts.Call e)) (system_c
 
 -- "this" {..}, and an assignment to it or the end of a call
 unfoldable pub this_statement : C Placed
-this_statement = both (λ p f. placed (tree.place_of_root p.0) (f p)) this_post post_end
+this_statement = pair (λ p f. placed (tree.place_of_root p.0) (f p)) this_post post_end
 
 -- an assignment to targets in braces
 unfoldable pub targets_statement : C Placed
-targets_statement = both (λ l f. placed (place_of_target l) (f l)) targets assign_end
+targets_statement = pair (λ l f. placed (place_of_target l) (f l)) targets assign_end
 
 -- "disable" "fork" ";"
 unfoldable pub disable : C Placed
@@ -390,7 +404,7 @@ unnamed =
     (Alt forever
     (Alt foreach
     (Alt after
-    (Alt at_event
+    (Alt on_event
     (Alt cycles
     (Alt wait
     (Alt disable
@@ -401,15 +415,15 @@ unnamed =
 
 -- a form that begins with a name
 abbrev pub named_body : C Placed
-named_body = both (λ t f. placed t.at (f (name_of t))) (tok k.Name) named_rest
+named_body = pair (λ t f. placed t.at (f (name_of t))) (tok k.Name) named_rest
 
 -- body
 unfoldable pub body : C Placed
 body = Alt named_body unnamed
 
--- a name at the front is a label, a target or a call
+-- the name that a statement begins with is a label, a target or a call
 unfoldable pub named_statement : C (Tok → stmts.Stmt)
-named_statement = Alt (Map (λ p t. stmts.At p.at (Some (name_of t)) p.body) (k.Colon ▸ body)) (Map (λ f t. stmts.At t.at None (f (name_of t))) named_rest)
+named_statement = Alt (Map (λ p t. stmts.Statement p.at (Some (name_of t)) p.body) (k.Colon ▸ body)) (Map (λ f t. stmts.Statement t.at None (f (name_of t))) named_rest)
 
 -- stmt = [id ":"] body
 unfoldable pub stmt : C stmts.Stmt

@@ -1,12 +1,13 @@
 -- What a token is: for each kind a test of lists of bytes (IEEE 1800-2017, 5.3 to 5.9).
-use Rattle.std.specs.Prelude.{ℕ, Bool, true, false, not, ◌&&◌, ◌||◌, List, [], ◌∷◌, map, Option, Some, None, unwrap_or, if◌then◌else◌, ◌==◌, codes}
+use Rattle.std.specs.Prelude.{ℕ, Bool, true, false, not, ◌&&◌, ◌||◌, List, [], ◌∷◌, Option, Some, None, unwrap_or, if◌then◌else◌, ◌==◌, codes}
 use Rattle.std.specs.List.{list_all, list_any}
 use Rattle.std.specs.Cmp.Lexicographic.{pointwise}
 use Rattle.std.specs.Bool.{nat_eq}
+use Prim.Native.Char.{code}
 use Rattle.std.specs.Char.{is_ascii_digit, is_ascii_alphabetic}
 use Rattle.sv_tree.specs.declared.kind.Kind.{Kind}
 use Rattle.sv_tree.specs.declared.kind.Kind.TheVariants as kinds
-use Rattle.sv_tree.specs.declared.kind.TheConstants.{SIGNS, WORDS, UNUSED}
+unfoldable pub use Rattle.sv_tree.specs.Spellings.{words, signs, unused}
 
 -- ---- words of tables
 
@@ -23,15 +24,15 @@ spelled (x ∷ xs) w = if is_word x.0 w then Some x.1 else spelled xs w
 
 -- a letter or _
 abbrev pub is_letter : ℕ → Bool
-is_letter c = is_ascii_alphabetic c || c == 95
+is_letter c = is_ascii_alphabetic c || c == code "_"
 
 -- letters, digits, _ and $
 abbrev pub is_name_part : ℕ → Bool
-is_name_part c = is_letter c || is_ascii_digit c || c == 36
+is_name_part c = is_letter c || is_ascii_digit c || c == code "$"
 
 -- a digit or _
 abbrev pub is_digit_or_mark : ℕ → Bool
-is_digit_or_mark c = is_ascii_digit c || c == 95
+is_digit_or_mark c = is_ascii_digit c || c == code "_"
 
 -- ---- small tests
 
@@ -59,7 +60,7 @@ is_name (c ∷ cs) = is_letter c && list_all is_name_part cs
 
 -- $ and a name
 unfoldable pub is_system_name : List ℕ → Bool
-is_system_name w = is_after 36 is_name w
+is_system_name w = is_after (code "$") is_name w
 
 -- ---- numbers
 
@@ -70,23 +71,23 @@ is_plain_number (c ∷ cs) = is_ascii_digit c && list_all is_digit_or_mark cs
 
 -- 0, 1, x or z
 abbrev pub is_filling_digit : ℕ → Bool
-is_filling_digit c = c == 48 || c == 49 || c == 120 || c == 122 || c == 88 || c == 90
+is_filling_digit c = c == code "0" || c == code "1" || c == code "x" || c == code "z" || c == code "X" || c == code "Z"
 
 -- '0 '1 'x 'z
 unfoldable pub is_filling_number : List ℕ → Bool
-is_filling_number w = is_after 39 (is_one is_filling_digit) w
+is_filling_number w = is_after (code "'") (is_one is_filling_digit) w
 
 -- b, o, h
 abbrev pub is_base_letter : ℕ → Bool
-is_base_letter c = c == 98 || c == 66 || c == 111 || c == 79 || c == 104 || c == 72
+is_base_letter c = c == code "b" || c == code "B" || c == code "o" || c == code "O" || c == code "h" || c == code "H"
 
 -- d
 abbrev pub is_decimal_letter : ℕ → Bool
-is_decimal_letter c = c == 100 || c == 68
+is_decimal_letter c = c == code "d" || c == code "D"
 
 -- s
 abbrev pub is_sign_letter : ℕ → Bool
-is_sign_letter c = c == 115 || c == 83
+is_sign_letter c = c == code "s" || c == code "S"
 
 -- letters, digits and _
 abbrev pub is_word_part : ℕ → Bool
@@ -94,7 +95,7 @@ is_word_part c = is_letter c || is_ascii_digit c
 
 -- and ?
 abbrev pub is_digit_part : ℕ → Bool
-is_digit_part c = is_word_part c || c == 63
+is_digit_part c = is_word_part c || c == code "?"
 
 -- what follows d: a ? only where no decimal digit comes first
 unfoldable pub is_decimal_body : List ℕ → Bool
@@ -113,7 +114,7 @@ is_signed_base (c ∷ cs) = if is_sign_letter c then is_base cs else is_base (c 
 
 -- a based number without a size
 unfoldable pub is_based_number : List ℕ → Bool
-is_based_number w = is_after 39 is_signed_base w
+is_based_number w = is_after (code "'") is_signed_base w
 
 -- the rest of a size, and a based number
 unfoldable pub is_size_rest : List ℕ → Bool
@@ -133,12 +134,12 @@ is_number w = is_plain_number w || (is_filling_number w || (is_based_number w ||
 
 -- m u n p f
 abbrev pub is_unit_letter : ℕ → Bool
-is_unit_letter c = c == 109 || c == 117 || c == 110 || c == 112 || c == 102
+is_unit_letter c = c == code "m" || c == code "u" || c == code "n" || c == code "p" || c == code "f"
 
 -- s ms us ns ps fs
 unfoldable pub is_unit : List ℕ → Bool
 is_unit [] = false
-is_unit (c ∷ cs) = if c == 115 then is_nil cs else is_unit_letter c && is_one (λ d. d == 115) cs
+is_unit (c ∷ cs) = if c == code "s" then is_nil cs else is_unit_letter c && is_one (λ d. d == code "s") cs
 
 -- the rest of the digits, and a unit
 unfoldable pub is_time_rest : List ℕ → Bool
@@ -158,29 +159,24 @@ is_one_step w = is_word (codes "1step") w
 
 -- n, t, \ and "
 abbrev pub is_escape : ℕ → Bool
-is_escape c = c == 110 || c == 116 || c == 92 || c == 34
+is_escape c = c == code "n" || c == code "t" || c == code "\\" || c == code "\""
 
 -- any byte but a newline
 abbrev pub is_on_line : ℕ → Bool
-is_on_line c = not (c == 10)
+is_on_line c = not (c == code "\n")
 
--- one of the four, or any but a newline
-abbrev pub escapes : Bool → ℕ → Bool
-escapes true c = is_escape c
-escapes false c = is_on_line c
-
--- after the first quote; after_slash tells that a \ stands before, and escape what may follow it
+-- after the first quote; after_slash tells that a \ stands before, and escape which bytes may follow it
 unfoldable pub is_string_rest : (ℕ → Bool) → Bool → List ℕ → Bool
 is_string_rest escape after_slash [] = false
 is_string_rest escape true (c ∷ cs) = escape c && is_string_rest escape false cs
 is_string_rest escape false (c ∷ cs) =
-    if c == 34 then is_nil cs
-    else (if c == 92 then is_string_rest escape true cs
+    if c == code "\"" then is_nil cs
+    else (if c == code "\\" then is_string_rest escape true cs
     else is_on_line c && is_string_rest escape false cs)
 
 -- a string literal (5.9)
 unfoldable pub is_string : (ℕ → Bool) → List ℕ → Bool
-is_string escape w = is_after 34 (is_string_rest escape false) w
+is_string escape w = is_after (code "\"") (is_string_rest escape false) w
 
 -- ---- operators
 
@@ -188,20 +184,6 @@ is_string escape w = is_after 34 (is_string_rest escape false) w
 unfoldable pub is_spelled : List (List ℕ × Kind) → List ℕ → Bool
 is_spelled [] w = false
 is_spelled (x ∷ xs) w = is_word x.0 w || is_spelled xs w
-
--- ---- the tables
-
--- the reserved words that the grammar uses
-unfoldable pub words : List (List ℕ × Kind)
-words = map (λ x. (x.0.now, x.1)) WORDS
-
--- the operators and the punctuation
-unfoldable pub signs : List (List ℕ × Kind)
-signs = map (λ x. (x.0.now, x.1)) SIGNS
-
--- the reserved words that no rule accepts
-unfoldable pub unused : List (List ℕ)
-unused = map (λ x. x.now) UNUSED
 
 -- ---- all kinds
 
@@ -221,5 +203,5 @@ kind_of w =
     else (if is_number w then Some kinds.Number
     else (if is_time w then Some kinds.TimeLiteral
     else (if is_one_step w then Some kinds.OneStep
-    else (if is_string (escapes true) w then Some kinds.StringLiteral
+    else (if is_string is_escape w then Some kinds.StringLiteral
     else spelled signs w)))))

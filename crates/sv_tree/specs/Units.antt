@@ -1,16 +1,20 @@
--- Units and their items as they are written (IEEE 1800-2017, A.1).
+-- What the items of modules, programs and classes consist of, as it is written (IEEE 1800-2017, A.1 to A.2 and A.6.11).
 use Rattle.std.specs.Prelude.{Bool, List, Option}
 use Rattle.sv_value.specs.declared.place.Place.{Place}
 use Rattle.sv_tree.specs.declared.word.Name.{Name}
 use Rattle.sv_tree.specs.declared.word.Life.{Life}
 use Rattle.sv_tree.specs.declared.word.Sign.{Sign}
+use Rattle.sv_tree.specs.declared.word.ParamWord.{ParamWord}
+use Rattle.sv_tree.specs.declared.word.PortDirection.{PortDirection}
 use Rattle.sv_tree.specs.declared.word.Direction.{Direction}
 use Rattle.sv_tree.specs.declared.word.EdgeWord.{EdgeWord}
-use Rattle.sv_tree.specs.declared.word.Procedure.{Procedure}
+use Rattle.sv_tree.specs.declared.word.ProcedureWord.{ProcedureWord}
 use Rattle.sv_tree.specs.declared.unit.Qualifiers.{Qualifiers}
 use Rattle.sv_tree.specs.Expr.{Expr, Lval}
-use Rattle.sv_tree.specs.Written.{Written, Implied, Range}
+use Rattle.sv_tree.specs.Types.{WrittenType, ImpliedType, Range}
 use Rattle.sv_tree.specs.Stmt.{Decl, Stmt, Stmts}
+
+-- ---- parameters, ports, connections
 
 -- a parameter and its value
 pub record ParamItem : Type 0 where
@@ -19,22 +23,22 @@ pub record ParamItem : Type 0 where
 
 -- parameters of one type
 pub record Param : Type 0 where
-  pub is_local : Bool
-  pub type : Implied
+  pub word : ParamWord
+  pub of : ImpliedType
   pub names : List ParamItem
 
 -- a port
 pub record Port : Type 0 where
-  pub direction : Option Direction
+  pub direction : Option PortDirection
   pub is_net : Bool
-  pub type : Implied
+  pub of : ImpliedType
   pub name : Name
 
 -- a connection of a port, or a value of a parameter
 pub data Connection : Type 0 where
   Value : Expr → Connection
-  Same : (at : Place) → Name → Connection
-  Given : (at : Place) → Name → Option Expr → Connection
+  Named : (at : Place) → Name → Connection
+  Given : (at : Place) → (name : Name) → (value : Option Expr) → Connection
   All : (at : Place) → Connection
 
 -- an instance
@@ -42,20 +46,32 @@ pub record Instance : Type 0 where
   pub name : Name
   pub connections : List Connection
 
+-- instances of one module or program, with the values of its parameters
+pub record Instances : Type 0 where
+  pub of : Name
+  pub params : List Connection
+  pub list : List Instance
+
+-- ---- subroutines and types
+
 -- an argument of a subroutine
 pub record Argument : Type 0 where
   pub direction : Option Direction
-  pub type : Implied
+  pub of : ImpliedType
   pub name : Name
   pub default : Option Expr
+
+-- what a subroutine is and gives
+pub data Returns : Type 0 where
+  Task : Returns
+  Void : Returns
+  Value : ImpliedType → Returns
 
 -- the head of a subroutine
 pub record Head : Type 0 where
   pub at : Place
-  pub is_task : Bool
   pub life : Life
-  pub is_void : Bool
-  pub type : Implied
+  pub returns : Returns
   pub name : Name
   pub arguments : List Argument
 
@@ -63,26 +79,32 @@ pub record Head : Type 0 where
 pub record Routine : Type 0 where
   pub head : Head
   pub decls : List Decl
-  pub body : Stmts
+  pub stmts : Stmts
   pub label : Option Name
 
--- an item of a class
-pub data ClassItem : Type 0 where
-  Property : Qualifiers → Decl → ClassItem
-  Method : Qualifiers → Routine → ClassItem
-  Pure : (at : Place) → Head → ClassItem
-  Class_typedef : Written → Name → ClassItem
-  Class_announce : Name → ClassItem
-  Nothing_here : ClassItem
-
--- a class
-pub record Class : Type 0 where
-  pub at : Place
-  pub is_virtual : Bool
+-- a name for a type
+pub record Typedef : Type 0 where
+  pub of : WrittenType
   pub name : Name
-  pub base : Option Name
-  pub items : List ClassItem
-  pub label : Option Name
+
+-- ---- members of classes
+
+-- a declaration in a class
+pub record Property : Type 0 where
+  pub qualifiers : Qualifiers
+  pub decl : Decl
+
+-- a subroutine in a class
+pub record Method : Type 0 where
+  pub qualifiers : Qualifiers
+  pub routine : Routine
+
+-- a method that classes derived from this one have
+pub record PureMethod : Type 0 where
+  pub at : Place
+  pub head : Head
+
+-- ---- clocking blocks
 
 -- a skew
 pub data Skew : Type 0 where
@@ -99,44 +121,36 @@ pub data ClockingItem : Type 0 where
   Default : List Sided → ClockingItem
   Signals : List Sided → List Name → ClockingItem
 
+-- a clocking block
+pub record ClockingBlock : Type 0 where
+  pub default : Option Place
+  pub name : Name
+  pub edge : EdgeWord
+  pub event : Name
+  pub items : List ClockingItem
+  pub label : Option Name
+
+-- ---- nets and processes
+
 -- a net, and the expression that drives it
 pub record NetItem : Type 0 where
   pub name : Name
   pub value : Option Expr
+
+-- nets of one type
+pub record NetDecl : Type 0 where
+  pub at : Place
+  pub sign : Sign
+  pub range : Option Range
+  pub names : List NetItem
 
 -- a continuous assignment
 pub record AssignItem : Type 0 where
   pub target : Lval
   pub value : Expr
 
--- an item of a module or a program, or one outside both
-pub data Item : Type 0 where
-  Net : (at : Place) → Sign → Option Range → List NetItem → Item
-  Assign : List AssignItem → Item
-  Instances : (unit : Name) → List Connection → List Instance → Item
-  Process : (at : Place) → Procedure → Stmt → Item
-  Declare : Decl → Item
-  Typedef : Written → Name → Item
-  Announce : Name → Item
-  Class_item : Class → Item
-  Parameter : Param → Item
-  Routine_item : Routine → Item
-  Clocking : (default : Option Place) → Name → EdgeWord → (event : Name) → List ClockingItem → Option Name → Item
-  DefaultClocking : (at : Place) → Name → Item
-  Nothing : Item
-
--- a module, or a program
-pub record Program : Type 0 where
+-- a structured procedure
+pub record Procedure : Type 0 where
   pub at : Place
-  pub is_program : Bool
-  pub life : Life
-  pub name : Name
-  pub params : Option (List Param)
-  pub ports : List Port
-  pub items : List Item
-  pub label : Option Name
-
--- a unit
-pub data Description : Type 0 where
-  Instantiable : Program → Description
-  Outside : Item → Description
+  pub word : ProcedureWord
+  pub body : Stmt

@@ -1,21 +1,22 @@
 -- What the trees of the program stand for: the same trees without pointers.
 use Rattle.std.specs.Prelude.{◌≡◌, List, [], ◌∷◌, refl}
 use Rattle.std.proofs.Common.{ap}
-use Rattle.sv_tree.specs.declared.expr.Expr.{Expr, Number, Time, Text, Null, Dollar, Group', Post', System', SuperNew', Join', Repeat', Cast', Unary', Binary', Choose', Row_of-Suffix, end_of-Suffix, more_of-Suffix, items-the_row-Suffix}
-use Rattle.sv_tree.specs.declared.expr.Suffix.{Suffix, Member, Actuals', Select', Part', Row_of-Expr, end_of-Expr, more_of-Expr, items-the_row-Expr}
+use Rattle.sv_tree.specs.declared.expr.Expr.{Expr, Number, Time, Text, Null, Dollar, Group', Post', System, SuperNew, Join', Repeat', Cast', Unary', Binary', Choose', Row_of-Suffix, end_of-Suffix, more_of-Suffix, items-the_row-Suffix}
+use Rattle.sv_tree.specs.declared.expr.Actuals.{Actuals, Unwritten, Written'}
+use Rattle.sv_tree.specs.declared.expr.Suffix.{Suffix, Member, Call', Select', Part', Row_of-Expr, end_of-Expr, more_of-Expr, items-the_row-Expr}
 use Rattle.sv_tree.specs.Expr as tree
 
 abbrev mutual
   pub expr : Expr → tree.Expr
   expr (Number at text) = tree.Number at text
   expr (Time at text) = tree.Time at text
-  expr (Text at bytes) = tree.Text at bytes
+  expr (Text at text) = tree.Text at text
   expr (Null at) = tree.Null at
   expr (Dollar at) = tree.Dollar at
   expr (Group' at p e) = tree.Group at (expr e)
   expr (Post' root shape row) = tree.Post root (suffixes row)
-  expr (System' name brackets shape row) = tree.System name brackets (exprs row)
-  expr (SuperNew' at new brackets shape row) = tree.SuperNew at new brackets (exprs row)
+  expr (System name a) = tree.System name (actuals a)
+  expr (SuperNew at new a) = tree.SuperNew at new (actuals a)
   expr (Join' at shape row) = tree.Join at (exprs row)
   expr (Repeat' at p e inner shape row) = tree.Repeat at (expr e) inner (exprs row)
   expr (Cast' to p e) = tree.Cast to (expr e)
@@ -23,9 +24,13 @@ abbrev mutual
   expr (Binary' op at p a q b) = tree.Binary op at (expr a) (expr b)
   expr (Choose' p c q a r b) = tree.Choose (expr c) (expr a) (expr b)
 
+  pub actuals : Actuals → tree.Actuals
+  actuals Unwritten = tree.Unwritten
+  actuals (Written' shape row) = tree.Written (exprs row)
+
   pub suffix : Suffix → tree.Suffixes → tree.Suffixes
   suffix (Member name) rest = tree.Member name rest
-  suffix (Actuals' at shape row) rest = tree.Actuals at (exprs row) rest
+  suffix (Call' at shape row) rest = tree.Call at (exprs row) rest
   suffix (Select' at p e) rest = tree.Select at (expr e) rest
   suffix (Part' at word p a q b) rest = tree.Part at word (expr a) (expr b) rest
 

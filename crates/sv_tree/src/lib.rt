@@ -14,18 +14,23 @@ mod types;
 mod unit;
 mod word;
 
-pub use expr::{CastType, Expr, Lval, Root, Suffix};
+pub use expr::{Actuals, CastType, Expr, Lval, Root, Suffix};
 pub use kind::{Kind, SIGNS, UNUSED, WORDS};
 pub use statement::{
-    Actuals, Arm, Body, Decl, Declarator, Delay, Dim, Event, EventPart, First, Init, Last, Stmt,
+    BlockingAssignment, Body, CaseItem, Decl, Declarator, Delay, Dimension, Event, EventPart,
+    ForInit, ForStep, Init, NonblockingAssignment, OperatorAssignment, Stmt,
 };
 pub use token::{MOST_TOKENS, Piece, Refused, Timescale, Token};
-pub use types::{EnumItem, Range, Type};
+pub use types::{EnumItem, ImpliedType, Range, WrittenType};
 pub use unit::{
-    Argument, AssignItem, Class, ClassItem, ClockingItem, Connection, Head, ImpliedType, Instance,
-    Item, NetItem, Param, ParamItem, Port, Program, Qualifiers, Routine, Sided, Skew, Unit,
+    Argument, AssignItem, Class, ClassItem, ClockingBlock, ClockingItem, Connection, Description,
+    DesignElement, Head, Instance, Instances, Item, Method, NetDecl, NetItem, Param, ParamItem,
+    Port, Procedure, Property, PureMethod, Qualifiers, Returns, Routine, Sided, Skew, Typedef,
 };
 pub use word::{
-    AtomWord, BinaryWord, CaseWord, Direction, EdgeWord, JoinWord, Life, Name, PartWord, Procedure,
-    Sign, StepWord, UnaryWord, VectorWord,
+    AtomWord, BinaryWord, CaseWord, Direction, EdgeWord, JoinWord, Life, Name, ParamWord, PartWord,
+    PortDirection, Precedence, ProcedureWord, Sign, StepWord, UnaryWord, VectorWord,
 };
+
+/// The greatest depth of a tree: how many statements, operators and pairs of brackets may stand inside one another.
+pub const MOST_DEPTH: u32 = 200;

@@ -1,15 +1,15 @@
 // Tokens, and what else stands in a text (IEEE 1800-2017, 5 and 22).
 use crate::kind::Kind;
-use sv_value::{Place, Text};
+use sv_value::{Excerpt, Place};
 use thiserror::Error;
 
 /// A token (5.2), at its first byte. `text` holds its bytes where the kind does not tell them: of names, system names, numbers, time
-/// literals and string literals (with their quotes). It is empty for all other kinds.
+/// literals and string literals (with their quotes). It is empty for all other kinds. It shares the memory of the text that was read.
 #[derive(Drop)]
 pub struct Token {
     pub kind: Kind,
     pub at: Place,
-    pub text: Text,
+    pub text: Excerpt,
 }
 
 /// `` `timescale A/B `` (22.7), at its back quote. Both numbers are powers of ten of a femtosecond: 15 is a second, 6 a nanosecond.
@@ -43,7 +43,7 @@ pub enum Refused {
     Directive,
 }
 
-/// What stands at the front of a text, with its length in bytes.
+/// What a text begins with, and its length in bytes.
 #[derive(Clone, Copy, PartialEq, Eq, Debug)]
 pub enum Piece {
     /// A separator, or a directive without effect.
@@ -57,4 +57,4 @@ pub enum Piece {
 }
 
 /// The greatest number of tokens of a file, without the one for its end: 2^21.
-pub const MOST_TOKENS: usize = 2097152;
+pub const MOST_TOKENS: usize = 1 << 21;

@@ -3,27 +3,49 @@ use crate::{AtomWord, Expr, Name, Sign, VectorWord};
 use sv_value::Place;
 
 /// `range = "[" expr ":" expr "]"`, at `[`.
-#[derive(Drop)]
 pub struct Range {
     pub at: Place,
     pub left: Expr,
     pub right: Expr,
 }
 
+impl Drop for Range {
+    fn drop(self) {
+        let Range {
+            at: _,
+            left: _,
+            right: _,
+        } = self;
+    }
+}
+
 /// An item of an enumeration: `id ["=" expr]`.
-#[derive(Drop)]
 pub struct EnumItem {
     pub name: Name,
     pub value: Option<Expr>,
 }
 
-/// `type`; each but a name is at its word.
-#[derive(Drop)]
-pub enum Type {
+impl Drop for EnumItem {
+    fn drop(self) {
+        let EnumItem { name: _, value: _ } = self;
+    }
+}
+
+/// A type as it is written; each but a name is at its word.
+pub enum WrittenType {
     /// `("bit" | "logic" | "reg") [sign] [range]`
-    Vector(Place, VectorWord, Sign, Option<Range>),
+    Vector {
+        at: Place,
+        word: VectorWord,
+        sign: Sign,
+        range: Option<Box<Range>>,
+    },
     /// `("byte" | "shortint" | "int" | "longint" | "integer" | "time") [sign]`
-    Atom(Place, AtomWord, Sign),
+    Atom {
+        at: Place,
+        word: AtomWord,
+        sign: Sign,
+    },
     /// `"string"`
     Text(Place),
     /// `"event"`
@@ -33,11 +55,73 @@ pub enum Type {
     /// `"mailbox"`
     Mailbox(Place),
     /// `"mailbox" "#" "(" type ")"`
-    MailboxOf(Place, Box<Type>),
+    MailboxOf(Place, Box<WrittenType>),
     /// `id`
     Named(Name),
     /// `"enum" "{" list(id ["=" expr]) "}"`
     Enum(Place, Vec<EnumItem>),
     /// `"enum" type "{" list(id ["=" expr]) "}"`
-    EnumOf(Place, Box<Type>, Vec<EnumItem>),
+    EnumOf {
+        at: Place,
+        base: Box<WrittenType>,
+        items: Vec<EnumItem>,
+    },
+}
+
+impl Drop for WrittenType {
+    fn drop(self) {
+        match self {
+            WrittenType::Vector {
+                at: _,
+                word: _,
+                sign: _,
+                range: _,
+            } => {}
+            WrittenType::Atom {
+                at: _,
+                word: _,
+                sign: _,
+            } => {}
+            WrittenType::Text(_) => {}
+            WrittenType::Event(_) => {}
+            WrittenType::Semaphore(_) => {}
+            WrittenType::Mailbox(_) => {}
+            WrittenType::MailboxOf(_, _) => {}
+            WrittenType::Named(_) => {}
+            WrittenType::Enum(_, _) => {}
+            WrittenType::EnumOf {
+                at: _,
+                base: _,
+                items: _,
+            } => {}
+        }
+    }
+}
+
+/// A type that may be left out: `[itype]`, where `itype = type | [sign] range | sign` (A.2.2.1)
+pub enum ImpliedType {
+    /// Nothing is written.
+    Unwritten,
+    /// `[sign] range | sign`, at its first token
+    Vector {
+        at: Place,
+        sign: Sign,
+        range: Option<Box<Range>>,
+    },
+    /// `type`
+    Written(WrittenType),
+}
+
+impl Drop for ImpliedType {
+    fn drop(self) {
+        match self {
+            ImpliedType::Unwritten => {}
+            ImpliedType::Vector {
+                at: _,
+                sign: _,
+                range: _,
+            } => {}
+            ImpliedType::Written(_) => {}
+        }
+    }
 }

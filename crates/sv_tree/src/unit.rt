@@ -1,94 +1,204 @@
-// Units and their items (IEEE 1800-2017, A.1 to A.2 and A.6.11).
+// Descriptions: what a file consists of (IEEE 1800-2017, A.1 to A.2 and A.6.11).
 use crate::{
-    Decl, Direction, EdgeWord, Expr, Life, Lval, Name, Procedure, Range, Sign, Stmt, Type,
+    Decl, Direction, EdgeWord, Expr, ImpliedType, Life, Lval, Name, ParamWord, PortDirection,
+    ProcedureWord, Range, Sign, Stmt, WrittenType,
 };
 use sv_value::Place;
 
-/// `[itype]`, where `itype = type | [sign] range | sign` (A.2.2.1)
-#[derive(Drop)]
-pub enum ImpliedType {
-    /// Nothing is written.
-    None,
-    /// `[sign] range | sign`, at its first token
-    Vector(Place, Sign, Option<Range>),
-    /// `type`
-    Written(Type),
-}
+// ---- parameters, ports, connections
 
 /// `param = ("parameter" | "localparam") [itype] list(id "=" expr)` (A.2.1.1)
-#[derive(Drop)]
 pub struct Param {
-    pub is_local: bool,
-    pub ty: ImpliedType,
+    pub word: ParamWord,
+    pub of: ImpliedType,
     pub names: Vec<ParamItem>,
 }
 
+impl Drop for Param {
+    fn drop(self) {
+        let Param {
+            word: _,
+            of: _,
+            names: _,
+        } = self;
+    }
+}
+
 /// A parameter and its value: `id "=" expr`
-#[derive(Drop)]
 pub struct ParamItem {
     pub name: Name,
     pub value: Expr,
 }
 
+impl Drop for ParamItem {
+    fn drop(self) {
+        let ParamItem { name: _, value: _ } = self;
+    }
+}
+
 /// `port = [("input" | "output") ["wire" | "tri"] [itype]] id` (A.1.3). The first of a list has a direction.
-#[derive(Drop)]
 pub struct Port {
-    pub direction: Option<Direction>,
+    pub direction: Option<PortDirection>,
+    /// Whether `wire` or `tri` is written.
     pub is_net: bool,
-    pub ty: ImpliedType,
+    pub of: ImpliedType,
     pub name: Name,
 }
 
+impl Drop for Port {
+    fn drop(self) {
+        let Port {
+            direction: _,
+            is_net: _,
+            of: _,
+            name: _,
+        } = self;
+    }
+}
+
 /// `conn = expr | "." id ["(" [expr] ")"] | ".*"` (A.4.1.1)
-#[derive(Drop)]
 pub enum Connection {
     /// `expr`
     Value(Expr),
     /// `"." id`, at the dot
     Named(Place, Name),
-    /// `"." id "(" [expr] ")"`, at the dot
-    Given(Place, Name, Option<Expr>),
+    /// `"." id "(" [expr] ")"`
+    Given {
+        /// The place of the dot.
+        at: Place,
+        name: Name,
+        value: Option<Expr>,
+    },
     /// `".*"`, at the sign
     All(Place),
 }
 
+impl Drop for Connection {
+    fn drop(self) {
+        match self {
+            Connection::Value(_) => {}
+            Connection::Named(_, _) => {}
+            Connection::Given {
+                at: _,
+                name: _,
+                value: _,
+            } => {}
+            Connection::All(_) => {}
+        }
+    }
+}
+
 /// `id "(" [list(conn)] ")"` (A.4.1.1)
-#[derive(Drop)]
 pub struct Instance {
     pub name: Name,
     pub connections: Vec<Connection>,
 }
 
+impl Drop for Instance {
+    fn drop(self) {
+        let Instance {
+            name: _,
+            connections: _,
+        } = self;
+    }
+}
+
+// ---- subroutines and types
+
 /// An argument of a subroutine: `[dir] [itype] id ["=" expr]` (A.2.7)
-#[derive(Drop)]
 pub struct Argument {
     pub direction: Option<Direction>,
-    pub ty: ImpliedType,
+    pub of: ImpliedType,
     pub name: Name,
     pub default: Option<Expr>,
 }
 
+impl Drop for Argument {
+    fn drop(self) {
+        let Argument {
+            direction: _,
+            of: _,
+            name: _,
+            default: _,
+        } = self;
+    }
+}
+
+/// What a subroutine is and gives: the words `function`, `task` and `void`, and the type of the result (A.2.6, A.2.7)
+pub enum Returns {
+    /// A task.
+    Task,
+    /// A function with `void`.
+    Void,
+    /// A function with a type, or with none; a constructor has none.
+    Value(ImpliedType),
+}
+
+impl Drop for Returns {
+    fn drop(self) {
+        match self {
+            Returns::Task => {}
+            Returns::Void => {}
+            Returns::Value(_) => {}
+        }
+    }
+}
+
 /// `head = "function" [life] ("new" | ["void" | itype] id) [args] | "task" [life] id [args]`, at its word (A.2.6, A.2.7).
-/// A constructor has the name `new`; a task is void.
-#[derive(Drop)]
+/// A constructor has the name `new`.
 pub struct Head {
     pub at: Place,
-    pub is_task: bool,
     pub life: Life,
-    pub is_void: bool,
-    pub ty: ImpliedType,
+    pub returns: Returns,
     pub name: Name,
     pub arguments: Vec<Argument>,
 }
 
+impl Drop for Head {
+    fn drop(self) {
+        let Head {
+            at: _,
+            life: _,
+            returns: _,
+            name: _,
+            arguments: _,
+        } = self;
+    }
+}
+
 /// `routine = head ";" {decl} {stmt} ("endfunction" | "endtask") [":" (id | "new")]` (A.2.6, A.2.7)
-#[derive(Drop)]
 pub struct Routine {
     pub head: Head,
     pub decls: Vec<Decl>,
-    pub body: Vec<Stmt>,
+    pub stmts: Vec<Stmt>,
+    /// The name after the last word.
     pub label: Option<Name>,
 }
+
+impl Drop for Routine {
+    fn drop(self) {
+        let Routine {
+            head: _,
+            decls: _,
+            stmts: _,
+            label: _,
+        } = self;
+    }
+}
+
+/// `"typedef" type id ";"` (A.2.1.3)
+pub struct Typedef {
+    pub of: WrittenType,
+    pub name: Name,
+}
+
+impl Drop for Typedef {
+    fn drop(self) {
+        let Typedef { of: _, name: _ } = self;
+    }
+}
+
+// ---- classes
 
 /// The words before an item of a class: `{"local" | "protected" | "static" | "virtual"}` (A.1.9)
 #[derive(Clone, Copy, Debug, PartialEq, Eq)]
@@ -99,36 +209,104 @@ pub struct Qualifiers {
     pub is_virtual: bool,
 }
 
+/// `{qualifier} decl` (A.1.9)
+pub struct Property {
+    pub qualifiers: Qualifiers,
+    pub decl: Decl,
+}
+
+impl Drop for Property {
+    fn drop(self) {
+        let Property {
+            qualifiers: _,
+            decl: _,
+        } = self;
+    }
+}
+
+/// `{qualifier} routine` (A.1.9)
+pub struct Method {
+    pub qualifiers: Qualifiers,
+    pub routine: Routine,
+}
+
+impl Drop for Method {
+    fn drop(self) {
+        let Method {
+            qualifiers: _,
+            routine: _,
+        } = self;
+    }
+}
+
+/// `"pure" "virtual" head ";"`, at `pure` (A.1.9)
+pub struct PureMethod {
+    pub at: Place,
+    pub head: Head,
+}
+
+impl Drop for PureMethod {
+    fn drop(self) {
+        let PureMethod { at: _, head: _ } = self;
+    }
+}
+
 /// `citem`: an item of a class (A.1.9)
-#[derive(Drop)]
 pub enum ClassItem {
     /// `{qualifier} decl`
-    Property(Qualifiers, Decl),
+    Property(Box<Property>),
     /// `{qualifier} routine`
-    Method(Qualifiers, Routine),
-    /// `"pure" "virtual" head ";"`, at `pure`
-    Pure(Place, Head),
+    Method(Box<Method>),
+    /// `"pure" "virtual" head ";"`
+    Pure(Box<PureMethod>),
     /// `"typedef" type id ";"`
-    Typedef(Type, Name),
+    Typedef(Box<Typedef>),
     /// `"typedef" "class" id ";"`
     Announce(Name),
     /// `";"`
     Null,
 }
 
+impl Drop for ClassItem {
+    fn drop(self) {
+        match self {
+            ClassItem::Property(_) => {}
+            ClassItem::Method(_) => {}
+            ClassItem::Pure(_) => {}
+            ClassItem::Typedef(_) => {}
+            ClassItem::Announce(_) => {}
+            ClassItem::Null => {}
+        }
+    }
+}
+
 /// `class = ["virtual"] "class" id ["extends" id] ";" {citem} "endclass" [":" id]`, at its first word (A.1.2)
-#[derive(Drop)]
 pub struct Class {
     pub at: Place,
     pub is_virtual: bool,
     pub name: Name,
     pub base: Option<Name>,
     pub items: Vec<ClassItem>,
+    /// The name after `endclass`.
     pub label: Option<Name>,
 }
 
+impl Drop for Class {
+    fn drop(self) {
+        let Class {
+            at: _,
+            is_virtual: _,
+            name: _,
+            base: _,
+            items: _,
+            label: _,
+        } = self;
+    }
+}
+
+// ---- clocking blocks
+
 /// `skew`: when a clocking signal is sampled or driven, at `#` (A.6.11)
-#[derive(Drop)]
 pub enum Skew {
     /// `"#" "1step"`
     OneStep(Place),
@@ -136,15 +314,31 @@ pub enum Skew {
     Amount(Place, Expr),
 }
 
+impl Drop for Skew {
+    fn drop(self) {
+        match self {
+            Skew::OneStep(_) => {}
+            Skew::Amount(_, _) => {}
+        }
+    }
+}
+
 /// A direction of clocking signals, with its skew: `("input" | "output") [skew] | "inout"`
-#[derive(Drop)]
 pub struct Sided {
     pub direction: Direction,
     pub skew: Option<Skew>,
 }
 
+impl Drop for Sided {
+    fn drop(self) {
+        let Sided {
+            direction: _,
+            skew: _,
+        } = self;
+    }
+}
+
 /// `citems`: an item of a clocking block (A.6.11)
-#[derive(Drop)]
 pub enum ClockingItem {
     /// `"default" {("input" | "output") skew} ";"`
     Default(Vec<Sided>),
@@ -152,72 +346,220 @@ pub enum ClockingItem {
     Signals(Vec<Sided>, Vec<Name>),
 }
 
+impl Drop for ClockingItem {
+    fn drop(self) {
+        match self {
+            ClockingItem::Default(_) => {}
+            ClockingItem::Signals(_, _) => {}
+        }
+    }
+}
+
+/// `["default"] "clocking" id "@" "(" ["posedge" | "negedge"] id ")" ";" {citems} "endclocking" [":" id]` (A.6.11)
+pub struct ClockingBlock {
+    /// The place of `default`, where it is written.
+    pub default: Option<Place>,
+    pub name: Name,
+    pub edge: EdgeWord,
+    /// The object whose edge or change is the event.
+    pub event: Name,
+    pub items: Vec<ClockingItem>,
+    /// The name after `endclocking`.
+    pub label: Option<Name>,
+}
+
+impl Drop for ClockingBlock {
+    fn drop(self) {
+        let ClockingBlock {
+            default: _,
+            name: _,
+            edge: _,
+            event: _,
+            items: _,
+            label: _,
+        } = self;
+    }
+}
+
+// ---- items
+
 /// A net, and the expression that drives it: `id ["=" expr]` (A.2.4)
-#[derive(Drop)]
 pub struct NetItem {
     pub name: Name,
     pub value: Option<Expr>,
 }
 
+impl Drop for NetItem {
+    fn drop(self) {
+        let NetItem { name: _, value: _ } = self;
+    }
+}
+
+/// `net = ("wire" | "tri") ["logic"] [sign] [range] list(id ["=" expr]) ";"`, at its word (A.2.1.3)
+pub struct NetDecl {
+    pub at: Place,
+    pub sign: Sign,
+    pub range: Option<Range>,
+    pub names: Vec<NetItem>,
+}
+
+impl Drop for NetDecl {
+    fn drop(self) {
+        let NetDecl {
+            at: _,
+            sign: _,
+            range: _,
+            names: _,
+        } = self;
+    }
+}
+
 /// A continuous assignment: `lval "=" expr` (A.6.1)
-#[derive(Drop)]
 pub struct AssignItem {
     pub target: Lval,
     pub value: Expr,
 }
 
-/// `mitem`, `pitem`, and what stands outside units (A.1.4, A.1.7)
-#[derive(Drop)]
+impl Drop for AssignItem {
+    fn drop(self) {
+        let AssignItem {
+            target: _,
+            value: _,
+        } = self;
+    }
+}
+
+/// `inst = id ["#" "(" list(conn) ")"] list(id "(" [list(conn)] ")") ";"` (A.4.1.1)
+pub struct Instances {
+    /// The name of what is instantiated.
+    pub of: Name,
+    /// The values of its parameters.
+    pub params: Vec<Connection>,
+    pub list: Vec<Instance>,
+}
+
+impl Drop for Instances {
+    fn drop(self) {
+        let Instances {
+            of: _,
+            params: _,
+            list: _,
+        } = self;
+    }
+}
+
+/// `("initial" | "always" | "always_comb" | "always_ff") stmt`, at its word (A.6.2)
+pub struct Procedure {
+    pub at: Place,
+    pub word: ProcedureWord,
+    pub body: Stmt,
+}
+
+impl Drop for Procedure {
+    fn drop(self) {
+        let Procedure {
+            at: _,
+            word: _,
+            body: _,
+        } = self;
+    }
+}
+
+/// `mitem`, `pitem`, and what stands outside modules and programs (A.1.4, A.1.7)
 pub enum Item {
-    /// `net = ("wire" | "tri") ["logic"] [sign] [range] list(id ["=" expr]) ";"`, at its word
-    Net(Place, Sign, Option<Range>, Vec<NetItem>),
+    /// `net`
+    Net(Box<NetDecl>),
     /// `"assign" list(lval "=" expr) ";"`
     Assign(Vec<AssignItem>),
-    /// `inst = id ["#" "(" list(conn) ")"] list(id "(" [list(conn)] ")") ";"`: the unit, the values of its parameters, the instances
-    Instances(Name, Vec<Connection>, Vec<Instance>),
-    /// `("initial" | "always" | "always_comb" | "always_ff") stmt`, at its word
-    Procedure(Place, Procedure, Stmt),
+    /// `inst`
+    Instances(Box<Instances>),
+    /// `("initial" | "always" | "always_comb" | "always_ff") stmt`
+    Procedure(Box<Procedure>),
     /// `decl`
-    Decl(Decl),
+    Decl(Box<Decl>),
     /// `"typedef" type id ";"`
-    Typedef(Type, Name),
+    Typedef(Box<Typedef>),
     /// `"typedef" "class" id ";"`
     Announce(Name),
     /// `class`
-    Class(Class),
+    Class(Box<Class>),
     /// `param ";"`
-    Param(Param),
+    Param(Box<Param>),
     /// `routine`
-    Routine(Routine),
-    /// `["default"] "clocking" id "@" "(" ["posedge" | "negedge"] id ")" ";" {citems} "endclocking" [":" id]`: the place of
-    /// `default`, the block's name, its edge and event, its items and its label
-    Clocking(Option<Place>, Name, EdgeWord, Name, Vec<ClockingItem>, Option<Name>),
+    Routine(Box<Routine>),
+    /// `["default"] "clocking" id "@" .. "endclocking" [":" id]`
+    Clocking(Box<ClockingBlock>),
     /// `"default" "clocking" id ";"`, at `default`
     DefaultClocking(Place, Name),
     /// `";"`
     Null,
 }
 
-/// `module = "module" [life] id [pports] [ports] ";" {mitem} "endmodule" [":" id]`, and
-/// `program = "program" [life] id [pports] [ports] ";" {pitem} "endprogram" [":" id]`, at the word (A.1.2),
+impl Drop for Item {
+    fn drop(self) {
+        match self {
+            Item::Net(_) => {}
+            Item::Assign(_) => {}
+            Item::Instances(_) => {}
+            Item::Procedure(_) => {}
+            Item::Decl(_) => {}
+            Item::Typedef(_) => {}
+            Item::Announce(_) => {}
+            Item::Class(_) => {}
+            Item::Param(_) => {}
+            Item::Routine(_) => {}
+            Item::Clocking(_) => {}
+            Item::DefaultClocking(_, _) => {}
+            Item::Null => {}
+        }
+    }
+}
+
+/// A design element (3.2): from its word to its end (A.1.2),
+/// `[life] id [pports] [ports] ";" {item} end [":" id]`,
 /// where `pports = "#" "(" list(["parameter"] [itype] id "=" expr) ")"` and `ports = "(" [list(port)] ")"`.
-#[derive(Drop)]
-pub struct Program {
+pub struct DesignElement {
     pub at: Place,
-    pub is_program: bool,
     pub life: Life,
     pub name: Name,
+    /// The parameters, where brackets for them are written.
     pub params: Option<Vec<Param>>,
     pub ports: Vec<Port>,
     pub items: Vec<Item>,
+    /// The name after its last word.
     pub label: Option<Name>,
 }
 
+impl Drop for DesignElement {
+    fn drop(self) {
+        let DesignElement {
+            at: _,
+            life: _,
+            name: _,
+            params: _,
+            ports: _,
+            items: _,
+            label: _,
+        } = self;
+    }
+}
+
 /// `unit = module | program | class | typedef | param ";" | routine | ";"` (A.1.2)
-#[derive(Drop)]
-pub enum Unit {
-    /// `module | program`
-    Module(Program),
-    /// What stands outside all modules and programs: `class | typedef | param ";" | routine | ";"`
+pub enum Description {
+    /// `module = "module" [life] id [pports] [ports] ";" {mitem} "endmodule" [":" id]`
+    Module(Box<DesignElement>),
+    /// `program = "program" [life] id [pports] [ports] ";" {pitem} "endprogram" [":" id]`
+    Program(Box<DesignElement>),
+    /// What stands outside modules and programs: `class | typedef | param ";" | routine | ";"`
     Item(Item),
+}
+
+impl Drop for Description {
+    fn drop(self) {
+        match self {
+            Description::Module(_) => {}
+            Description::Program(_) => {}
+            Description::Item(_) => {}
+        }
+    }
 }

@@ -1,11 +1,11 @@
 // Names, and the words that choose among alternatives.
-use sv_value::{Place, Text};
+use sv_value::{Excerpt, Place};
 
 /// `id`: a name (IEEE 1800-2017, 5.6), at its first byte.
 #[derive(Drop)]
 pub struct Name {
     pub at: Place,
-    pub text: Text,
+    pub text: Excerpt,
 }
 
 /// Operators before an operand (11.3): `+ - ! ~ & ~& | ~| ^` and `~^` or `^~`.
@@ -28,8 +28,8 @@ pub enum UnaryWord {
 #[derive(Clone, Copy, Debug, PartialEq, Eq)]
 pub enum BinaryWord {
     Power,
-    Times,
-    Over,
+    Multiply,
+    Divide,
     Remainder,
     Plus,
     Minus,
@@ -50,6 +50,33 @@ pub enum BinaryWord {
     Xnor,
     Or,
     LogicalAnd,
+    LogicalOr,
+}
+
+/// How strongly the operators between two operands bind (Table 11-2), the strongest first.
+#[derive(Clone, Copy, Debug, PartialEq, Eq)]
+pub enum Precedence {
+    /// `**`
+    Power,
+    /// `* / %`
+    Multiplicative,
+    /// `+ -`
+    Additive,
+    /// `<< >> <<< >>>`
+    Shift,
+    /// `< <= > >=`
+    Relational,
+    /// `== != === !==`
+    Equality,
+    /// `&`
+    And,
+    /// `^ ~^ ^~`
+    Xor,
+    /// `|`
+    Or,
+    /// `&&`
+    LogicalAnd,
+    /// `||`
     LogicalOr,
 }
 
@@ -103,7 +130,21 @@ pub enum Life {
     Unwritten,
 }
 
-/// The direction of a port, an argument or a clocking signal: `input`, `output`, `inout` (A.2.1.2)
+/// `"parameter" | "localparam"` (A.2.1.1)
+#[derive(Clone, Copy, Debug, PartialEq, Eq)]
+pub enum ParamWord {
+    Parameter,
+    Localparam,
+}
+
+/// The direction of a port: `input`, `output` (A.2.1.2)
+#[derive(Clone, Copy, Debug, PartialEq, Eq)]
+pub enum PortDirection {
+    Input,
+    Output,
+}
+
+/// The direction of an argument or a clocking signal: `input`, `output`, `inout` (A.2.1.2)
 #[derive(Clone, Copy, Debug, PartialEq, Eq)]
 pub enum Direction {
     Input,
@@ -137,7 +178,7 @@ pub enum EdgeWord {
 
 /// The word of a structured procedure (9.2): `initial`, `always`, `always_comb`, `always_ff`
 #[derive(Clone, Copy, Debug, PartialEq, Eq)]
-pub enum Procedure {
+pub enum ProcedureWord {
     Initial,
     Always,
     AlwaysComb,

@@ -9,7 +9,6 @@ pub struct Held {
 }
 
 /// A place that is written, whole or in part.
-#[derive(Drop)]
 pub enum Target {
     /// An element of an object, or a driver of a net.
     Object(ObjectTarget),
@@ -33,4 +32,28 @@ pub enum Target {
     },
     /// Nothing: the index is unknown or out of range, and a write does nothing (IEEE 1800-2017, 7.4.5 and 11.5.1).
     Nothing,
+}
+
+impl Drop for Target {
+    fn drop(self) {
+        match self {
+            Target::Object(_) => {}
+            Target::Local {
+                activation: _,
+                variable: _,
+                part: _,
+            } => {}
+            Target::Field {
+                object: _,
+                property: _,
+                part: _,
+            } => {}
+            Target::Item {
+                container: _,
+                index: _,
+                part: _,
+            } => {}
+            Target::Nothing => {}
+        }
+    }
 }

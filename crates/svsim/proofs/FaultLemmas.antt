@@ -15,11 +15,11 @@ use Rattle.sv_tree.specs.Forms.{Production, Value}
 use Rattle.sv_tree.specs.Grammar.{heads, need, table, texts_of}
 use Rattle.sv_tree.specs.Lexing.{Lexes, lex_fault, scales}
 use Rattle.sv_tree.specs.Codes.{toks}
-use Rattle.sv_tree.specs.Units.{Description, Instantiable, Outside}
+use Rattle.sv_tree.specs.Descriptions.{Description, Module, Program, Item}
 use Rattle.sv_tree.specs.UnitGrammar.{file}
 use Rattle.sv_tree.proofs.Good.{good, file_fine}
-use Rattle.sv_parse_expr.specs.declared.fault.SyntaxKind.{SyntaxKind}
-use Rattle.sv_parse_expr.specs.declared.fault.SyntaxKind.TheVariants as kinds
+use Rattle.sv_parse.specs.declared.fault.SyntaxKind.{SyntaxKind}
+use Rattle.sv_parse.specs.declared.fault.SyntaxKind.TheVariants as kinds
 use Rattle.sv_parse_unit.specs.Files.{IsFault}
 use Rattle.sv_flat.specs.declared.design.Parts.{Parts}
 use Rattle.svsim.specs.declared.front.FrontFault.{FrontFault}
@@ -95,8 +95,9 @@ lexical (Some x) = front.Lexical x.1 x.0
 -- what has a design has a module
 has_module : (ts : List Timescale) (us : List Description) (d : Parts) → design_of ts us ≡ Some d → has_unit us ≡ true
 has_module ts [] d e = absurd cc
-has_module ts (Instantiable m ∷ us) d e = refl
-has_module ts (Outside i ∷ us) d e = absurd cc
+has_module ts (Module m ∷ us) d e = refl
+has_module ts (Program p ∷ us) d e = refl
+has_module ts (Item i ∷ us) d e = absurd cc
 
 module _ (text : List ℕ) where
   same_tokens : (ts us : List Token) → Lexes 0 text ts → Lexes 0 text us → ts ≡ us

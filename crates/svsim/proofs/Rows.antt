@@ -12,12 +12,12 @@ use Rattle.sv_tree.specs.declared.word.Sign.TheVariants as sign
 use Rattle.sv_tree.specs.declared.word.VectorWord.TheVariants as vector_word
 use Rattle.sv_tree.specs.declared.word.AtomWord.TheVariants as atom_word
 use Rattle.sv_tree.specs.declared.word.BinaryWord.TheVariants as binary_word
-use Rattle.sv_tree.specs.declared.word.Procedure.TheVariants as procedure
+use Rattle.sv_tree.specs.declared.word.ProcedureWord.TheVariants as procedure
 use Rattle.sv_tree.specs.declared.expr.Root.TheVariants as root
 use Rattle.sv_tree.specs.Expr as tree
-use Rattle.sv_tree.specs.Written as written
+use Rattle.sv_tree.specs.Types as written
 use Rattle.sv_tree.specs.Stmt as stmts
-use Rattle.sv_tree.specs.Units as units
+use Rattle.sv_tree.specs.Items as items
 use Rattle.svsim.specs.Format.{format_of}
 use Rattle.svsim.specs.Terms.{variable_named, literal}
 use Rattle.svsim.specs.Scales.{default_scale}
@@ -32,49 +32,49 @@ abbrev called : List ℕ → Name
 called text = record { at = here; text = text }
 
 abbrev id : List ℕ → tree.Expr
-id text = tree.Post (root.Plain (called text)) tree.NoSuffix
+id text = tree.Expr.Post (root.Plain (called text)) tree.NoSuffix
 
 abbrev number : List ℕ → tree.Expr
 number text = tree.Number here text
 
 abbrev to : List ℕ → tree.Lval
-to text = tree.Target (root.Plain (called text)) tree.NoSuffix
+to text = tree.Lval.Post (root.Plain (called text)) tree.NoSuffix
 
 abbrev stmt : stmts.Body → stmts.Stmt
-stmt b = stmts.At here None b
+stmt b = stmts.Statement here None b
 
 abbrev block : stmts.Stmts → stmts.Stmt
 block ss = stmt (stmts.Block None [] ss None)
 
 abbrev assign : List ℕ → tree.Expr → stmts.Stmt
-assign a e = stmt (stmts.Assign (to a) None (stmts.Value e))
+assign a e = stmt (stmts.Blocking (record { target = to a; delay = None; value = stmts.Value e }))
 
 abbrev later : List ℕ → tree.Expr → stmts.Stmt
-later a e = stmt (stmts.Later (to a) None e)
+later a e = stmt (stmts.Nonblocking (record { target = to a; delay = None; value = e }))
 
 abbrev after : List ℕ → stmts.Stmt → stmts.Stmt
 after n s = stmt (stmts.After (record { at = here; amount = number n }) s)
 
 abbrev print : List ℕ → List ℕ → tree.Exprs → stmts.Stmt
-print word text es = stmt (stmts.Call (tree.System (called word) true (tree.AndExpr (tree.Text here (34 ∷ text ++ 34 ∷ [])) es)))
+print word text es = stmt (stmts.Body.Call (tree.System (called word) (tree.Written (tree.AndExpr (tree.Expr.Text here (34 ∷ text ++ 34 ∷ [])) es))))
 
-abbrev declare : written.Written → List ℕ → units.Item
-declare t a = units.Declare (record { life = life.Unwritten; type = t; names = record { name = called a; dim = None; init = None } ∷ [] })
+abbrev declare : written.WrittenType → List ℕ → items.Item
+declare t a = items.Decl (record { life = life.Unwritten; of = t; names = record { name = called a; dimension = None; init = None } ∷ [] })
 
-abbrev int : written.Written
+abbrev int : written.WrittenType
 int = written.Atom here atom_word.Int sign.Unwritten
 
-abbrev logic : Option written.Range → written.Written
+abbrev logic : Option written.Range → written.WrittenType
 logic r = written.Vector here vector_word.Logic sign.Unwritten r
 
-abbrev initial : stmts.Stmt → units.Item
-initial s = units.Process here procedure.Initial s
+abbrev initial : stmts.Stmt → items.Item
+initial s = items.Procedure (record { at = here; word = procedure.Initial; body = s })
 
-abbrev module_of : List units.Item → units.Program
-module_of is = record { at = here; is_program = false; life = life.Unwritten; name = called (codes "t"); params = None; ports = []; items = is; label = None }
+abbrev module_of : List items.Item → items.DesignElement
+module_of is = record { at = here; life = life.Unwritten; name = called (codes "t"); params = None; ports = []; items = is; label = None }
 
 -- the log of a module under a list of the Active side
-abbrev log : List ℕ → List units.Item → Option (List ℕ)
+abbrev log : List ℕ → List items.Item → Option (List ℕ)
 log active is = option_map (λ (d : Parts). log_text true (directed d (Listed active) (Listed []) 40)) (design_of_module default_scale (module_of is))
 
 -- ---- files
@@ -100,7 +100,7 @@ unfolding symbols_of word_of format_of variable_named literal
 strobe = refl
 
 -- `initial $display("A"); initial $display("B");`, with two lists
-abbrev two : List units.Item
+abbrev two : List items.Item
 two = initial (print (codes "$display") (codes "A") tree.NoExpr) ∷ initial (print (codes "$display") (codes "B") tree.NoExpr) ∷ []
 
 two_in_order : log [] two ≡ Some (codes "A" ++ 10 ∷ codes "B" ++ 10 ∷ [])

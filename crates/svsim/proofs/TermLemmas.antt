@@ -8,7 +8,7 @@ use Rattle.sv_tree.specs.declared.word.Name.{Name}
 use Rattle.sv_tree.specs.declared.expr.Root.{Root}
 use Rattle.sv_tree.specs.declared.expr.Root.TheVariants as root
 use Rattle.sv_tree.specs.declared.expr.Expr.{Expr}
-use Rattle.sv_tree.specs.declared.expr.Suffix.{Suffix, Member, Actuals', Select', Part'}
+use Rattle.sv_tree.specs.declared.expr.Suffix.{Suffix, Member, Call', Select', Part'}
 use Rattle.sv_tree.specs.View.{expr, expr_list, suffix_list}
 use Rattle.sv_tree.specs.Expr as tree
 use Rattle.svsim.specs.Terms.{named, names_of}
@@ -18,7 +18,7 @@ use Rattle.svsim.specs.declared.terms.Typed.{Typed}
 pub no_plain_name : (os : List Object) (n : Name) (ss : List Suffix) → 0 < length ss → named os (tree.Post (root.Plain n) (suffix_list ss)) ≡ None
 no_plain_name os n [] h = absurd (omega arith)
 no_plain_name os n (Member m ∷ ss) h = refl
-no_plain_name os n (Actuals' at shape row ∷ ss) h = refl
+no_plain_name os n (Call' at shape row ∷ ss) h = refl
 no_plain_name os n (Select' at p e ∷ ss) h = refl
 no_plain_name os n (Part' at word p a q b ∷ ss) h = refl
 

@@ -1,5 +1,5 @@
 -- The form of the files that run today, over their trees, and their flat designs: one module of variables and `initial` procedures.
-use Rattle.std.specs.Prelude.{ℕ, zero, suc, Bool, true, false, not, ◌==◌, ◌&&◌, List, [], ◌∷◌, ◌++◌, Option, None, Some, length, is_none, option_and_then, option_map, if◌then◌else◌}
+use Rattle.std.specs.Prelude.{ℕ, zero, suc, Bool, true, false, ◌==◌, ◌&&◌, List, [], ◌∷◌, ◌++◌, Option, None, Some, length, is_none, option_and_then, option_map, if◌then◌else◌}
 use Rattle.std.specs.List.{list_any}
 use Rattle.sv_value.specs.declared.number.RoutineId.{RoutineId}
 use Rattle.sv_value.specs.declared.place.Place.{Place}
@@ -15,9 +15,13 @@ use Rattle.sv_flat.specs.declared.design.Parts.{Parts}
 use Rattle.sv_flat.specs.declared.design.Scale.{Scale}
 use Rattle.sv_tree.specs.declared.token.Timescale.{Timescale}
 use Rattle.sv_tree.specs.declared.word.Name.{Name}
-use Rattle.sv_tree.specs.declared.word.Procedure.TheVariants as procedure
+use Rattle.sv_tree.specs.Depth.{most_depth}
+use Rattle.sv_tree.specs.declared.word.ProcedureWord.{ProcedureWord}
+use Rattle.sv_tree.specs.declared.word.ProcedureWord.TheVariants as procedure
 use Rattle.sv_tree.specs.Stmt as stmts
 use Rattle.sv_tree.specs.Units as units
+use Rattle.sv_tree.specs.Items as items
+use Rattle.sv_tree.specs.Descriptions as files
 use Rattle.svsim.specs.Scales.{scale_set}
 use Rattle.svsim.specs.Simple.{simple, delayed, awaited}
 use Rattle.svsim.specs.Terms.{expression}
@@ -57,7 +61,7 @@ with_routine at ss make m = with_stmt at (record { stmts = ss; routines = m.rout
 
 -- the place of a statement
 abbrev pub place_of : stmts.Stmt → Place
-place_of (stmts.At at label body) = at
+place_of (stmts.Statement at label body) = at
 
 -- a block without name, declarations and label
 abbrev pub is_bare : Option Name → List stmts.Decl → Option Name → Bool
@@ -68,8 +72,8 @@ abbrev mutual
   -- what a statement of at most so many on a path adds to a list, if it has the form
   pub add : List Object → (levels : ℕ) → stmts.Stmt → Body → Option Body
   add os zero s b = None
-  add os (suc n) (stmts.At at None body) b = add_body os n at body b
-  add os (suc n) (stmts.At at (Some label) body) b = None
+  add os (suc n) (stmts.Statement at None body) b = add_body os n at body b
+  add os (suc n) (stmts.Statement at (Some label) body) b = None
 
   pub add_body : List Object → (levels : ℕ) → Place → stmts.Body → Body → Option Body
   add_body os n at (stmts.Block name ds ss end) b =
@@ -81,7 +85,7 @@ abbrev mutual
       (expression os e)
   add_body os n at (stmts.Forever s) b = option_map (with_routine at b.stmts form.Forever) (option_map (closed (place_of s)) (add os n s (no_stmts b.routines)))
   add_body os n at (stmts.After d s) b = option_and_then (λ f. add os n s (with_stmt at b f)) (delayed d.amount)
-  add_body os n at (stmts.On_event e s) b = option_and_then (λ f. add os n s (with_stmt at b f)) (awaited os e)
+  add_body os n at (stmts.On e s) b = option_and_then (λ f. add os n s (with_stmt at b f)) (awaited os e)
   add_body os n at body b = option_map (with_stmt at b) (simple os body)
 
   pub add_all : List Object → (levels : ℕ) → stmts.Stmts → Body → Option Body
@@ -97,10 +101,6 @@ abbrev pub block_added : List Object → (levels : ℕ) → Place → stmts.Stmt
 block_added os n at ss b = option_map (λ inner. with_routine at b.stmts (form.Block []) (closed at inner)) (add_all os n ss (no_stmts b.routines))
 
 -- ---- items and the module
-
--- at most this many statements stand on a path
-abbrev pub MOST_DEPTH : ℕ
-MOST_DEPTH = 200
 
 -- the objects, the processes and the routines so far
 pub record Items : Type 0 where
@@ -124,9 +124,14 @@ process unit at body = record {
 abbrev pub with_process : (unit : List ℕ) → Place → Items → Made → Items
 with_process unit at items m = record { objects = items.objects; processes = items.processes ++ process unit at m.body ∷ []; routines = m.routines }
 
+-- whether a procedure runs once
+abbrev pub is_initial : ProcedureWord → Bool
+is_initial procedure.Initial = true
+is_initial _ = false
+
 -- an `initial` procedure; its routine is placed at its word
-abbrev pub with_procedure : (unit : List ℕ) → Place → stmts.Stmt → Items → Option Items
-with_procedure unit at s items = option_map (λ b. with_process unit at items (closed at b)) (add items.objects MOST_DEPTH s (no_stmts items.routines))
+abbrev pub with_procedure : (unit : List ℕ) → units.Procedure → Items → Option Items
+with_procedure unit p items = if is_initial p.word then option_map (λ b. with_process unit p.at items (closed p.at b)) (add items.objects most_depth p.body (no_stmts items.routines)) else None
 
 -- other objects
 abbrev pub with_objects : Items → List Object → Items
@@ -137,15 +142,15 @@ abbrev pub with_decl : (unit : List ℕ) → stmts.Decl → Items → Option Ite
 with_decl unit d items = if length items.processes == 0 then option_map (with_objects items) (declared unit d items.objects) else None
 
 -- what an item adds
-abbrev pub with_item : (unit : List ℕ) → units.Item → Items → Option Items
-with_item unit (units.Declare d) items = with_decl unit d items
-with_item unit (units.Process at procedure.Initial s) items = with_procedure unit at s items
-with_item unit _ items = None
+abbrev pub with_item : (unit : List ℕ) → items.Item → Items → Option Items
+with_item unit (items.Decl d) so_far = with_decl unit d so_far
+with_item unit (items.Procedure p) so_far = with_procedure unit p so_far
+with_item unit _ so_far = None
 
 -- what items add
-abbrev pub with_items : (unit : List ℕ) → List units.Item → Items → Option Items
-with_items unit [] items = Some items
-with_items unit (i ∷ is) items = option_and_then (with_items unit is) (with_item unit i items)
+abbrev pub with_items : (unit : List ℕ) → List items.Item → Items → Option Items
+with_items unit [] so_far = Some so_far
+with_items unit (i ∷ is) so_far = option_and_then (with_items unit is) (with_item unit i so_far)
 
 -- the design of a module of this name
 abbrev pub design_with : Scale → (unit : List ℕ) → Items → Parts
@@ -160,26 +165,27 @@ design_with scale unit items = record {
 }
 
 -- a module without ports, parameters and label
-abbrev pub is_plain : units.Program → Bool
-is_plain m = not m.is_program && is_unwritten m.life && is_none m.params && length m.ports == 0 && is_none m.label
+abbrev pub is_plain : items.DesignElement → Bool
+is_plain m = is_unwritten m.life && is_none m.params && length m.ports == 0 && is_none m.label
 
 -- the design of such a module
-abbrev pub design_of_module : Scale → units.Program → Option Parts
+abbrev pub design_of_module : Scale → items.DesignElement → Option Parts
 design_of_module scale m =
     if is_plain m then option_map (design_with scale m.name.text) (with_items m.name.text m.items (record { objects = []; processes = []; routines = [] })) else None
 
 -- ---- files
 
 -- a module or a program
-abbrev pub is_unit : units.Description → Bool
-is_unit (units.Instantiable m) = true
-is_unit (units.Outside i) = false
+abbrev pub is_unit : files.Description → Bool
+is_unit (files.Module m) = true
+is_unit (files.Program p) = true
+is_unit (files.Item i) = false
 
 -- there is a module or a program
-abbrev pub has_unit : List units.Description → Bool
+abbrev pub has_unit : List files.Description → Bool
 has_unit us = list_any is_unit us
 
 -- the design of a file with these time scales and units, if the one unit is a module of today's form
-abbrev pub design_of : List Timescale → List units.Description → Option Parts
-design_of ts (units.Instantiable m ∷ []) = option_and_then (λ scale. design_of_module scale m) (scale_set ts)
+abbrev pub design_of : List Timescale → List files.Description → Option Parts
+design_of ts (files.Module m ∷ []) = option_and_then (λ scale. design_of_module scale m) (scale_set ts)
 design_of ts us = None

@@ -45,7 +45,7 @@ print_kind name = if bytes_eq name (codes "$display") then Some print.Now else i
 
 -- ("$display" | "$strobe") "(" text {"," id} ")"
 abbrev pub called : List Object → tree.Expr → Option Form
-called os (tree.System name true es) = option_and_then (λ k. printed k os es) (print_kind name.text)
+called os (tree.System name (tree.Written es)) = option_and_then (λ k. printed k os es) (print_kind name.text)
 called os e = None
 
 -- ---- assignments
@@ -64,22 +64,25 @@ later_form at v x = form.Nonblocking (lvalue at v ∷ []) (widened v.ty.width x)
 
 -- a name that is written to
 abbrev pub target : tree.Lval → Option Name
-target (tree.Target (root.Plain n) tree.NoSuffix) = Some n
+target (tree.Lval.Post (root.Plain n) tree.NoSuffix) = Some n
 target l = None
 
 -- an assignment of an expression to a variable
 abbrev pub written : (Place → Variable → Typed → Form) → List Object → tree.Lval → tree.Expr → Option Form
 written make os l e = option_and_then (λ n. option_and_then (λ v. option_map (make n.at v) (expression os e)) (variable_named os n.text)) (target l)
 
+-- an expression that is assigned
+abbrev pub value_assigned : stmts.Init → Option tree.Expr
+value_assigned (stmts.Value e) = Some e
+value_assigned i = None
+
 -- id "=" e
-abbrev pub assigned : List Object → tree.Lval → Option stmts.Delay → stmts.Init → Option Form
-assigned os l None (stmts.Value e) = written assign_form os l e
-assigned os l d i = None
+abbrev pub assigned : List Object → stmts.BlockingAssignment → Option Form
+assigned os a = if is_none a.delay then option_and_then (written assign_form os a.target) (value_assigned a.value) else None
 
 -- id "<=" e
-abbrev pub assigned_later : List Object → tree.Lval → Option stmts.Delay → tree.Expr → Option Form
-assigned_later os l None e = written later_form os l e
-assigned_later os l (Some d) e = None
+abbrev pub assigned_later : List Object → stmts.NonblockingAssignment → Option Form
+assigned_later os a = if is_none a.delay then written later_form os a.target a.value else None
 
 -- ---- waiting
 
@@ -100,15 +103,15 @@ watched os p = if is_none p.condition then option_map (λ x. form.At (On x.expr 
 
 -- "@" "(" ["posedge" | "negedge"] id ")"
 abbrev pub awaited : List Object → stmts.Event → Option Form
-awaited os (stmts.Parts (p ∷ [])) = watched os p
+awaited os (stmts.Event.Parts (p ∷ [])) = watched os p
 awaited os e = None
 
 -- ---- all of them
 
 -- ";", a call, an assignment
 abbrev pub simple : List Object → stmts.Body → Option Form
-simple os stmts.Null = Some form.Null
-simple os (stmts.Call e) = called os e
-simple os (stmts.Assign l d i) = assigned os l d i
-simple os (stmts.Later l d e) = assigned_later os l d e
+simple os stmts.Body.Null = Some form.Null
+simple os (stmts.Body.Call e) = called os e
+simple os (stmts.Blocking a) = assigned os a
+simple os (stmts.Nonblocking a) = assigned_later os a
 simple os _ = None

@@ -13,7 +13,7 @@ use Rattle.sv_tree.specs.declared.word.Sign.TheVariants as sign
 use Rattle.sv_tree.specs.declared.word.VectorWord.TheVariants as vector_word
 use Rattle.sv_tree.specs.declared.word.AtomWord.TheVariants as atom_word
 use Rattle.sv_tree.specs.Expr as tree
-use Rattle.sv_tree.specs.Written as written
+use Rattle.sv_tree.specs.Types as written
 use Rattle.sv_tree.specs.Stmt as stmts
 use Rattle.svsim.specs.Digits.{is_number, number_of}
 use Rattle.svsim.specs.declared.variables.VariableType.{VariableType}
@@ -44,7 +44,7 @@ abbrev pub int_type : VariableType
 int_type = record { ty = record { width = 32; signed = true; four_state = false }; range = None }
 
 -- ("bit" | "logic") ["[" N ":" "0" "]"] | "int"
-abbrev pub type_of : written.Written → Option VariableType
+abbrev pub type_of : written.WrittenType → Option VariableType
 type_of (written.Vector at vector_word.Bit sign.Unwritten r) = vector_type false r
 type_of (written.Vector at vector_word.Logic sign.Unwritten r) = vector_type true r
 type_of (written.Atom at atom_word.Int sign.Unwritten) = Some int_type
@@ -69,7 +69,7 @@ object_of unit t n = record {
 -- names without dimensions and initializers are added
 abbrev pub with_names : (unit : List ℕ) → VariableType → List stmts.Declarator → List Object → Option (List Object)
 with_names unit t [] os = Some os
-with_names unit t (n ∷ ns) os = if is_none n.dim && is_none n.init then with_names unit t ns (os ++ object_of unit t n.name ∷ []) else None
+with_names unit t (n ∷ ns) os = if is_none n.dimension && is_none n.init then with_names unit t ns (os ++ object_of unit t n.name ∷ []) else None
 
 -- no word tells the life of what stands in it
 abbrev pub is_unwritten : Life → Bool
@@ -78,4 +78,4 @@ is_unwritten _ = false
 
 -- a declaration is added to the objects
 abbrev pub declared : (unit : List ℕ) → stmts.Decl → List Object → Option (List Object)
-declared unit d os = if is_unwritten d.life then option_and_then (λ t. with_names unit t d.names os) (type_of d.type) else None
+declared unit d os = if is_unwritten d.life then option_and_then (λ t. with_names unit t d.names os) (type_of d.of) else None

@@ -1,7 +1,7 @@
 // From the trees of a file to its design, for the form of file that runs today.
 ghost use Rattle.std.specs.Prelude.{◌≡◌, ◌++◌, ◌∷◌, [], List, ℕ, IfOk, map};
-ghost use Rattle.sv_tree.specs.StmtView.{stmt as stmt_tree, decl as decl_tree};
-ghost use Rattle.sv_tree.specs.UnitView.{item as item_tree, program as program_tree, unit as unit_tree};
+ghost use Rattle.sv_tree.specs.StmtView.{decl as decl_tree};
+ghost use Rattle.sv_tree.specs.UnitView.{item as item_tree, design_element as element_tree, description as file_tree, procedure as procedure_tree};
 ghost use Rattle.svsim.specs.Form.{process, with_decl, with_procedure, with_item, with_items, is_plain, is_unit, has_unit, design_with, design_of_module, design_of};
 ghost use Rattle.svsim.specs.Reading.{Gives, Adds, items};
 
@@ -11,11 +11,10 @@ use crate::statements::{add, close};
 use crate::variables::declare;
 use std::alloc::{AllocError, Global};
 use sv_flat::{Instance, Object, Parts, Process, ProcessKind, Routine, Scale};
-use sv_tree::{Decl, Item, Life, Procedure, Program, Stmt, Timescale, Unit};
+use sv_tree::{
+    Decl, Description, DesignElement, Item, Life, MOST_DEPTH, Procedure, ProcedureWord, Timescale,
+};
 use sv_value::{Place, RoutineId, Seq, Side};
-
-/// How many statements may stand on a path.
-const MOST_DEPTH: u32 = 200;
 
 /// The path that has this name alone.
 fn path(alloc: Global, name: &[u8]) -> Result<Seq<Seq<u8>>, AllocError>
@@ -45,18 +44,20 @@ fn process_of(alloc: Global, unit: &[u8], at: Place, body: RoutineId) -> Result<
 fn add_procedure(
     alloc: Global,
     unit: &[u8],
-    at: Place,
-    stmt: &Stmt,
+    procedure: &Procedure,
     objects: &[Object],
     processes: &mut Vec<Process>,
     routines: &mut Vec<Routine>,
 ) -> Result<(), FrontFault>
-    ensures { Adds result (with_procedure unit.now at (stmt_tree stmt.now) (items objects.now processes.old.items routines.old.items)) (items objects.now processes.new.items routines.new.items) }
+    ensures { Adds result (with_procedure unit.now (procedure_tree procedure.now) (items objects.now processes.old.items routines.old.items)) (items objects.now processes.new.items routines.new.items) }
 {
+    if procedure.word != ProcedureWord::Initial {
+        return Err(FrontFault::NotYet);
+    }
     let mut stmts = Vec::new(alloc);
-    add(alloc, objects, MOST_DEPTH, stmt, &mut stmts, routines)?;
-    let body = close(at, stmts, routines)?;
-    processes.push(process_of(alloc, unit, at, body)?)?;
+    add(alloc, objects, MOST_DEPTH, &procedure.body, &mut stmts, routines)?;
+    let body = close(procedure.at, stmts, routines)?;
+    processes.push(process_of(alloc, unit, procedure.at, body)?)?;
     Ok(())
 }
 
@@ -89,8 +90,8 @@ fn add_item(
 {
     match item {
         Item::Decl(decl) => add_decl(alloc, unit, decl, objects, processes),
-        Item::Procedure(at, Procedure::Initial, stmt) => {
-            add_procedure(alloc, unit, *at, stmt, objects, processes, routines)
+        Item::Procedure(procedure) => {
+            add_procedure(alloc, unit, procedure, objects, processes, routines)
         }
         _ => Err(FrontFault::NotYet),
     }
@@ -118,11 +119,10 @@ fn add_items(
 }
 
 /// Whether a unit is a module without ports, parameters and label.
-fn is_plain(unit: &Program) -> bool
-    ensures { result ≡ is_plain (program_tree unit.now) }
+fn is_plain(unit: &DesignElement) -> bool
+    ensures { result ≡ is_plain (element_tree unit.now) }
 {
-    !unit.is_program
-        && unit.life == Life::Unwritten
+    unit.life == Life::Unwritten
         && unit.params.is_none()
         && unit.ports.is_empty()
         && unit.label.is_none()
@@ -156,8 +156,8 @@ fn parts_with(
 }
 
 /// What the design of a module is made of, if the module has the form that runs today.
-fn module_parts(alloc: Global, scale: Scale, unit: &Program) -> Result<Parts, FrontFault>
-    ensures { Gives (λ d. d) result (design_of_module scale (program_tree unit.now)) }
+fn module_parts(alloc: Global, scale: Scale, unit: &DesignElement) -> Result<Parts, FrontFault>
+    ensures { Gives (λ d. d) result (design_of_module scale (element_tree unit.now)) }
 {
     if !is_plain(unit) {
         return Err(FrontFault::NotYet);
@@ -165,7 +165,7 @@ fn module_parts(alloc: Global, scale: Scale, unit: &Program) -> Result<Parts, Fr
     let mut objects = Vec::new(alloc);
     let mut processes = Vec::new(alloc);
     let mut routines = Vec::new(alloc);
-    let name = unit.name.text.as_slice();
+    let name = unit.name.text.bytes();
     add_items(
         alloc,
         name,
@@ -178,18 +178,19 @@ fn module_parts(alloc: Global, scale: Scale, unit: &Program) -> Result<Parts, Fr
 }
 
 /// Whether a unit is a module or a program.
-fn is_unit(unit: &Unit) -> bool
-    ensures { result ≡ is_unit (unit_tree unit.now) }
+fn is_unit(unit: &Description) -> bool
+    ensures { result ≡ is_unit (file_tree unit.now) }
 {
     match unit {
-        Unit::Module(_) => true,
-        Unit::Item(_) => false,
+        Description::Module(_) => true,
+        Description::Program(_) => true,
+        Description::Item(_) => false,
     }
 }
 
 /// Whether there is a module or a program.
-pub fn has_unit(units: &[Unit]) -> bool
-    ensures { result ≡ has_unit (map unit_tree units.now) }
+pub fn has_unit(units: &[Description]) -> bool
+    ensures { result ≡ has_unit (map file_tree units.now) }
 {
     for unit in units {
         if is_unit(unit) {
@@ -200,10 +201,10 @@ pub fn has_unit(units: &[Unit]) -> bool
 }
 
 /// What the design of a file is made of, if the file has the form that runs today.
-pub fn parts_of(alloc: Global, scales: &[Timescale], units: &[Unit]) -> Result<Parts, FrontFault>
-    ensures { Gives (λ d. d) result (design_of scales.now (map unit_tree units.now)) }
+pub fn parts_of(alloc: Global, scales: &[Timescale], units: &[Description]) -> Result<Parts, FrontFault>
+    ensures { Gives (λ d. d) result (design_of scales.now (map file_tree units.now)) }
 {
-    let [Unit::Module(module)] = units else {
+    let [Description::Module(module)] = units else {
         return Err(FrontFault::NotYet);
     };
     let Some(scale) = scale_set(scales) else {

@@ -1,6 +1,6 @@
 // From the text of a file to its design.
 ghost use Rattle.std.specs.Prelude.{◌≡◌, ◌≤◌, ◌^◌, IfOk, IfErr, length, map};
-ghost use Rattle.sv_tree.specs.UnitView.{unit as unit_tree};
+ghost use Rattle.sv_tree.specs.UnitView.{description as file_tree};
 ghost use Rattle.svsim.specs.Source.{IsSource, IsDesign, Declines, Explains, of_lexical, of_syntax, refusal_text, syntax_text};
 ghost use Rattle.svsim.specs.declared.front.FrontFault.TheVariants.{Memory};
 
@@ -8,9 +8,9 @@ use crate::form::{has_unit, parts_of};
 use std::alloc::{AllocError, AllocFailed, Global};
 use sv_flat::{Design, is_built};
 use sv_lex::{LexFault, lex};
-use sv_parse_expr::{SyntaxFault, SyntaxKind};
+use sv_parse::{SyntaxFault, SyntaxKind};
 use sv_parse_unit::parse;
-use sv_tree::{Refused, Timescale, Unit};
+use sv_tree::{Description, Refused, Timescale};
 use sv_value::Place;
 use thiserror::Error;
 
@@ -97,9 +97,9 @@ pub fn syntax_text(kind: SyntaxKind) -> &'static str
 }
 
 /// The design of the units of a file, or why they have none.
-fn design_of(alloc: Global, scales: &[Timescale], units: &[Unit]) -> Result<Design, FrontFault>
-    ensures design { IfOk result (λ d. IsDesign scales.now (map unit_tree units.now) d) }
-    ensures none { IfErr result (Declines scales.now (map unit_tree units.now)) }
+fn design_of(alloc: Global, scales: &[Timescale], units: &[Description]) -> Result<Design, FrontFault>
+    ensures design { IfOk result (λ d. IsDesign scales.now (map file_tree units.now) d) }
+    ensures none { IfErr result (Declines scales.now (map file_tree units.now)) }
 {
     if !has_unit(units) {
         return Err(FrontFault::NoRoot);

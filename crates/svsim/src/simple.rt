@@ -3,7 +3,7 @@ ghost use Rattle.std.specs.Prelude.{◌≡◌, ◌∷◌, [], List, ℕ, Some, N
 ghost use Rattle.sv_tree.specs.Expr as tree;
 ghost use Rattle.sv_tree.specs.declared.expr.Root.TheVariants as root;
 ghost use Rattle.sv_tree.specs.View.{expr, expr_list, suffix_list};
-ghost use Rattle.sv_tree.specs.StmtView.{lval, init as init_tree, delay as delay_tree, event as event_tree, event_part as part_tree};
+ghost use Rattle.sv_tree.specs.StmtView.{lval, blocking as blocking_tree, nonblocking as nonblocking_tree, event as event_tree, event_part as part_tree};
 ghost use Rattle.svsim.specs.Simple.{with_values, printed, print_kind, called, lvalue, assign_form, later_form, target, assigned, assigned_later, delayed, edge_of, watched, awaited};
 ghost use Rattle.svsim.specs.Reading.{Gives};
 
@@ -15,7 +15,10 @@ use crate::terms::{
 };
 use std::alloc::{AllocError, Global};
 use sv_flat::{Base, DataType, Edge, Expr as FlatExpr, Form, Lvalue, Object, PrintKind, Watch};
-use sv_tree::{Delay, EdgeWord, Event, EventPart, Expr, Init, Lval, Name, Root, Suffix};
+use sv_tree::{
+    Actuals, BlockingAssignment, EdgeWord, Event, EventPart, Expr, Init, Lval, Name,
+    NonblockingAssignment, Root, Suffix,
+};
 use sv_value::{Piece, Place, Plain, Seq};
 
 /// The most digits of a delay.
@@ -69,7 +72,7 @@ fn printed(
     let Expr::Text(_, text) = format else {
         return Err(FrontFault::NotYet);
     };
-    let pieces = format_of(alloc, text.as_slice())?;
+    let pieces = format_of(alloc, text.bytes())?;
     let values = names_of(alloc, objects, names)?;
     with_values(kind, pieces, values)
 }
@@ -78,10 +81,10 @@ fn printed(
 pub fn called(alloc: Global, objects: &[Object], call: &Expr) -> Result<Form, FrontFault>
     ensures { Gives (λ f. f) result (called objects.now (expr call.now)) }
 {
-    let Expr::System(name, true, arguments) = call else {
+    let Expr::System(name, Actuals::Written(arguments)) = call else {
         return Err(FrontFault::NotYet);
     };
-    let kind = print_kind(name.text.as_slice())?;
+    let kind = print_kind(name.text.bytes())?;
     printed(alloc, kind, objects, arguments)
 }
 
@@ -104,7 +107,7 @@ fn lvalues(alloc: Global, at: Place, variable: Variable) -> Result<Seq<Lvalue>, 
 
 /// The root and the suffixes that a target is.
 fn post_of(to: &Lval) -> Option<(&Root, &[Suffix])>
-    ensures some { IfSome result (λ p. lval to.now ≡ tree.Target p.0.now (suffix_list p.1.now)) }
+    ensures some { IfSome result (λ p. lval to.now ≡ tree.Lval.Post p.0.now (suffix_list p.1.now)) }
     ensures none { IfNone result (target (lval to.now) ≡ None) }
 {
     match to {
@@ -134,20 +137,18 @@ fn target(to: &Lval) -> Result<&Name, FrontFault>
 pub fn assigned(
     alloc: Global,
     objects: &[Object],
-    to: &Lval,
-    delay: &Option<Delay>,
-    init: &Init,
+    assignment: &BlockingAssignment,
 ) -> Result<Form, FrontFault>
-    ensures { Gives (λ f. f) result (assigned objects.now (lval to.now) (option_map delay_tree delay.now) (init_tree init.now)) }
+    ensures { Gives (λ f. f) result (assigned objects.now (blocking_tree assignment.now)) }
 {
-    if delay.is_some() {
+    if assignment.delay.is_some() {
         return Err(FrontFault::NotYet);
     }
-    let Init::Value(value) = init else {
+    let Init::Value(value) = &assignment.value else {
         return Err(FrontFault::NotYet);
     };
-    let name = target(to)?;
-    let variable = variable_named(objects, name.text.as_slice())?;
+    let name = target(&assignment.target)?;
+    let variable = variable_named(objects, name.text.bytes())?;
     let x = expression(alloc, objects, value)?;
     Ok(Form::Assign {
         targets: lvalues(alloc, name.at, variable)?,
@@ -159,18 +160,16 @@ pub fn assigned(
 pub fn assigned_later(
     alloc: Global,
     objects: &[Object],
-    to: &Lval,
-    delay: &Option<Delay>,
-    value: &Expr,
+    assignment: &NonblockingAssignment,
 ) -> Result<Form, FrontFault>
-    ensures { Gives (λ f. f) result (assigned_later objects.now (lval to.now) (option_map delay_tree delay.now) (expr value.now)) }
+    ensures { Gives (λ f. f) result (assigned_later objects.now (nonblocking_tree assignment.now)) }
 {
-    if delay.is_some() {
+    if assignment.delay.is_some() {
         return Err(FrontFault::NotYet);
     }
-    let name = target(to)?;
-    let variable = variable_named(objects, name.text.as_slice())?;
-    let x = expression(alloc, objects, value)?;
+    let name = target(&assignment.target)?;
+    let variable = variable_named(objects, name.text.bytes())?;
+    let x = expression(alloc, objects, &assignment.value)?;
     Ok(Form::Nonblocking {
         targets: lvalues(alloc, name.at, variable)?,
         value: widened(alloc, variable.ty.width, x)?,
@@ -188,10 +187,10 @@ pub fn delayed(alloc: Global, amount: &Expr) -> Result<Form, FrontFault>
     let Expr::Number(_, text) = amount else {
         return Err(FrontFault::NotYet);
     };
-    if !is_number(MOST_DIGITS, text.as_slice()) {
+    if !is_number(MOST_DIGITS, text.bytes()) {
         return Err(FrontFault::NotYet);
     }
-    let Typed { expr, .. } = literal(alloc, text.as_slice())?;
+    let Typed { expr, .. } = literal(alloc, text.bytes())?;
     Ok(Form::Delay {
         amount: expr,
         in_ticks: false,

@@ -162,7 +162,7 @@ pub fn named(alloc: Global, objects: &[Object], e: &Expr) -> Result<Typed, Front
     let Some(name) = plain_name(e) else {
         return Err(FrontFault::NotYet);
     };
-    let variable = variable_named(objects, name.text.as_slice())?;
+    let variable = variable_named(objects, name.text.bytes())?;
     Ok(value_of(alloc, name.at, variable)?)
 }
 
@@ -242,7 +242,7 @@ fn operand(alloc: Global, objects: &[Object], e: &Expr) -> Result<Typed, FrontFa
     ensures { Gives (λ x. x) result (operand objects.now (expr e.now)) }
 {
     match e {
-        Expr::Number(_, text) => literal(alloc, text.as_slice()),
+        Expr::Number(_, text) => literal(alloc, text.bytes()),
         _ => named(alloc, objects, e),
     }
 }
@@ -324,8 +324,14 @@ pub fn expression(alloc: Global, objects: &[Object], e: &Expr) -> Result<Typed, 
     ensures { Gives (λ x. x) result (expression objects.now (expr e.now)) }
 {
     match e {
-        Expr::Unary(_, UnaryWord::Invert, operand) => inverted(alloc, objects, operand),
-        Expr::Binary(word, _, left, right) => {
+        Expr::Unary {
+            word: UnaryWord::Invert,
+            operand,
+            ..
+        } => inverted(alloc, objects, operand),
+        Expr::Binary {
+            word, left, right, ..
+        } => {
             let a = operand(alloc, objects, left)?;
             let b = operand(alloc, objects, right)?;
             operation(alloc, *word, a, b)

@@ -9,7 +9,7 @@ use crate::digits::{is_number, number_of};
 use crate::front::FrontFault;
 use std::alloc::{AllocError, Global};
 use sv_flat::{Bounds, DataType, Home, Object, ObjectKind};
-use sv_tree::{AtomWord, Decl, Declarator, Expr, Life, Name, Range, Sign, Type, VectorWord};
+use sv_tree::{AtomWord, Decl, Declarator, Expr, Life, Name, Range, Sign, VectorWord, WrittenType};
 use sv_value::{Integral, Plain, Seq};
 
 /// The most digits of a bound.
@@ -48,15 +48,15 @@ fn range_of(range: &Range) -> Result<u32, FrontFault>
     let Expr::Number(_, low) = &range.right else {
         return Err(FrontFault::NotYet);
     };
-    if low.as_slice() != b"0".as_slice() {
+    if low.bytes() != b"0".as_slice() {
         return Err(FrontFault::NotYet);
     }
-    highest(high.as_slice())
+    highest(high.bytes())
 }
 
 /// `bit` or `logic` with a range, or one bit.
-fn vector_type(four_state: bool, range: &Option<Range>) -> Result<VariableType, FrontFault>
-    ensures { Gives (λ t. t) result (vector_type four_state (option_map range_tree range.now)) }
+fn vector_type(four_state: bool, range: &Option<Box<Range>>) -> Result<VariableType, FrontFault>
+    ensures { Gives (λ t. t) result (vector_type four_state (option_map (λ r. range_tree r.value) range.now)) }
 {
     let Some(range) = range else {
         return Ok(VariableType {
@@ -83,13 +83,27 @@ fn vector_type(four_state: bool, range: &Option<Range>) -> Result<VariableType, 
 }
 
 /// `("bit" | "logic") ["[" N ":" "0" "]"] | "int"`
-fn type_of(ty: &Type) -> Result<VariableType, FrontFault>
+fn type_of(ty: &WrittenType) -> Result<VariableType, FrontFault>
     ensures { Gives (λ t. t) result (type_of (type_tree ty.now)) }
 {
     match ty {
-        Type::Vector(_, VectorWord::Bit, Sign::Unwritten, range) => vector_type(false, range),
-        Type::Vector(_, VectorWord::Logic, Sign::Unwritten, range) => vector_type(true, range),
-        Type::Atom(_, AtomWord::Int, Sign::Unwritten) => Ok(VariableType {
+        WrittenType::Vector {
+            word: VectorWord::Bit,
+            sign: Sign::Unwritten,
+            range,
+            ..
+        } => vector_type(false, range),
+        WrittenType::Vector {
+            word: VectorWord::Logic,
+            sign: Sign::Unwritten,
+            range,
+            ..
+        } => vector_type(true, range),
+        WrittenType::Atom {
+            word: AtomWord::Int,
+            sign: Sign::Unwritten,
+            ..
+        } => Ok(VariableType {
             ty: Integral {
                 width: 32,
                 signed: true,
@@ -122,7 +136,7 @@ fn object_of(
 {
     Ok(Object {
         at: name.at,
-        path: path_of(alloc, unit, name.text.as_slice())?,
+        path: path_of(alloc, unit, name.text.bytes())?,
         kind: ObjectKind::Variable,
         ty: DataType::Plain(Plain::Integral(ty.ty)),
         array: None,
@@ -145,7 +159,7 @@ fn add_name(
 ) -> Result<(), FrontFault>
     ensures { Adds result (with_names unit.now ty (declarator_tree declarator.now ∷ []) objects.old.items) objects.new.items }
 {
-    if declarator.dim.is_some() {
+    if declarator.dimension.is_some() {
         return Err(FrontFault::NotYet);
     }
     if declarator.init.is_some() {
@@ -187,6 +201,6 @@ pub fn declare(
     if decl.life != Life::Unwritten {
         return Err(FrontFault::NotYet);
     }
-    let ty = type_of(&decl.ty)?;
+    let ty = type_of(&decl.of)?;
     add_names(alloc, unit, ty, &decl.names, objects)
 }

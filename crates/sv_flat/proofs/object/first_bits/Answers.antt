@@ -3,7 +3,7 @@ use Rattle.std.proofs.lemmas.Nat.Bits.{bit_at-zero}
 use Rattle.sv_value.specs.declared.word.TheConstants.{WIDEST}
 use Rattle.sv_value.specs.declared.word.Sym.TheVariants.{Zero}
 use Rattle.sv_value.specs.Vector.{symbols_of}
-use Rattle.sv_value.specs.Words.{all_x-words, replicate-symbols_of, same_vector, symbol_cong}
+use Rattle.sv_value.proofs.Words.{all_x-words, replicate-symbols_of, same_vector, symbol_cong}
 use Rattle.sv_flat.specs.State.{unknown_symbol}
 use Rattle.sv_flat.proofs.object.first_bits.Goals as goal
 

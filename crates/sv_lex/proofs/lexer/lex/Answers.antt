@@ -15,14 +15,14 @@ loop-i-init c = record {
 
 pub returns-clause-tokens : goal.returns-clause-tokens
 returns-clause-tokens c =
-    lexes_end c.args.file c.args.text.now c.loop-i.tokens.items c.push.new.self.items c.loop-i.scales.items c.loop-i.at c.loop-i.i c.end_of_text.result
-    c.loop-i-test.false c.loop-i.invariant.same c.in_ok-push.ensures.items c.end_of_text.ensures
+    lexes_end c.args.file c.args.text.now c.loop-i.tokens.items c.push.new.self.items c.loop-i.scales.items c.loop-i.at c.loop-i.i c.in_ok-end_of_text.field-0
+    c.loop-i-test.false c.loop-i.invariant.same c.in_ok-push.ensures.items c.in_ok-end_of_text.ensures
 
 pub returns-clause-closed : goal.returns-clause-closed
 returns-clause-closed c =
     lexed_closed c.args.file c.args.text.now c.push.new.self.items
-    (lexes_end c.args.file c.args.text.now c.loop-i.tokens.items c.push.new.self.items c.loop-i.scales.items c.loop-i.at c.loop-i.i c.end_of_text.result
-    c.loop-i-test.false c.loop-i.invariant.same c.in_ok-push.ensures.items c.end_of_text.ensures)
+    (lexes_end c.args.file c.args.text.now c.loop-i.tokens.items c.push.new.self.items c.loop-i.scales.items c.loop-i.at c.loop-i.i c.in_ok-end_of_text.field-0
+    c.loop-i-test.false c.loop-i.invariant.same c.in_ok-push.ensures.items c.in_ok-end_of_text.ensures)
 
 pub returns-clause-scales : goal.returns-clause-scales
 returns-clause-scales c =

@@ -1,7 +1,7 @@
 use Rattle.std.proofs.Common.{◌≡◌, ◌≤◌, List, length, ℕ, sym, ◌∙◌, arith}
 use Rattle.sv_tree.specs.Longest.{longest}
 use Rattle.sv_tree.specs.Lexing.{is_token}
-use Rattle.sv_lex.proofs.Fronts.{longest-le}
+use Rattle.sv_lex.proofs.Prefixes.{longest-le}
 use Rattle.sv_lex.proofs.Chosen.{longest_is, chosen_is, number_passes, kind_of_nothing, number_of_nothing}
 use Rattle.sv_lex.proofs.pieces.token_at.Goals as goal
 
