@@ -2,7 +2,8 @@
 use Rattle.std.proofs.Common.{◌≡◌, map, ℕ, get_or, suc, ◌+◌, ◌<◌, ◌≤◌, max, Bool, true, false, not, cond, ◌&&◌, ◌||◌, List, [], ◌∷◌, length, drop, refl, sym, ap, ◌∙◌, arith}
 use Rattle.std.specs.Prelude.{Option, Some, None, ◌==◌, nat_eq, codes}
 use Rattle.std.specs.List.{list_all, list_any, prefix_len, starts_with}
-use Rattle.sv_tree.specs.Longest.{longest, grown}
+use Rattle.sv_tree.specs.Longest.{longest}
+use Rattle.sv_lex.specs.FirstBytes.{grown}
 use Rattle.sv_lex.specs.declared.strings.Escape.{Escape}
 use Rattle.sv_tree.specs.Tokens.{is_nil, is_one, is_letter, is_name_part, is_name, is_system_name, is_digit_or_mark, is_word_part, is_digit_part, is_base_letter, is_decimal_letter, is_sign_letter, is_filling_digit, is_plain_number, is_filling_number, is_decimal_body, is_base, is_signed_base, is_based_number, is_size_rest, is_sized_number, is_number, is_unit_letter, is_unit, is_time_rest, is_time, is_one_step, is_after, is_on_line, is_string_rest, is_string, is_word, is_spelled, spelled}
 use Rattle.sv_tree.specs.Lexing.{is_blank_byte, is_blank, is_line_comment, is_comment_rest, is_comment, is_separator}

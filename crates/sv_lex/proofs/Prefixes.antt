@@ -5,7 +5,8 @@ use Rattle.std.proofs.lemmas.Bool.{ne_eqb, eq-eqb, cases_lt}
 use Rattle.std.proofs.lemmas.List.{take_all, take_rest}
 use Rattle.std.specs.Prelude.{◌==◌, nat_eq}
 use Rattle.sv_tree.specs.Tokens.{is_nil, is_one, is_after, is_word}
-use Rattle.sv_tree.specs.Longest.{longest, longest_within, grown}
+use Rattle.sv_tree.specs.Longest.{longest, longest_within}
+use Rattle.sv_lex.specs.FirstBytes.{grown}
 use Rattle.sv_lex.specs.FirstBytes.{begin_apart}
 
 grown-suc : (b : Bool) (n : ℕ) → suc (suc n) ≡ grown b (suc n)

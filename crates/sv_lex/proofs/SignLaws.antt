@@ -4,10 +4,10 @@ use Rattle.std.proofs.lemmas.Bool.{eqb-true, and_parts, and_right}
 use Rattle.sv_tree.specs.declared.kind.Kind.{Kind}
 use Rattle.std.specs.Prelude.{◌==◌}
 use Rattle.std.specs.List.{list_all, list_any}
-use Rattle.sv_tree.specs.Longest.{longest, grown}
+use Rattle.sv_tree.specs.Longest.{longest}
 use Rattle.sv_tree.specs.Tokens.{is_nil, is_word, is_spelled, is_word_part, signs}
 use Rattle.sv_lex.proofs.Prefixes.{longest-cons, longest-none, longest-is_nil, first}
-use Rattle.sv_lex.specs.FirstBytes.{alone, is_alone}
+use Rattle.sv_lex.specs.FirstBytes.{alone, is_alone, grown}
 
 -- a word begins with a byte that may not stand in a name
 abbrev begins_no_name : List ℕ → Bool

@@ -4,7 +4,7 @@ ghost use Rattle.std.specs.Prelude.{◌≡◌, ◌≤◌, ◌<◌, ◌+◌, ◌^
 ghost use Rattle.std.specs.List.{prefix_len};
 ghost use Rattle.std.specs.Char.{is_ascii_digit};
 ghost use Rattle.sv_tree.specs.Tokens.{is_letter, is_name_part, is_digit_or_mark, is_word_part, is_digit_part, is_base_letter, is_decimal_letter, is_sign_letter, is_on_line, is_filling_digit, is_unit_letter};
-ghost use Rattle.sv_tree.specs.Longest.{grown};
+ghost use Rattle.sv_lex.specs.FirstBytes.{grown};
 ghost use Rattle.sv_tree.specs.Directives.{is_space};
 
 /// A letter or `_`.
