@@ -11,36 +11,11 @@ ghost use Rattle.sv_tree.specs.View.{expr};
 ghost use Rattle.sv_tree.specs.StmtView as view;
 ghost use Rattle.sv_tree.specs.Grammar.{reads};
 ghost use Rattle.sv_parse.specs.Outcome.{Gives, Reads, seen};
-ghost use Rattle.sv_parse.proofs.TypeParts.{enclosed_known, given_init_known};
+ghost use Rattle.sv_parse.proofs.TypeParts.{given_init_known};
 
 use std::alloc::Global;
 use sv_parse::{Budget, Part, Read, ReadError};
 use sv_tree::{Expr, Init, Kind, Token};
-
-/// `"(" expr ")"`, whose brackets do not count
-pub struct Enclosed;
-
-impl Part for Enclosed {
-    type Tree = Expr;
-
-    ghost Seen = { tree.Expr };
-
-    ghost production = { in_parentheses expressions.expr };
-
-    ghost view = { expr };
-
-    ghost first = { code k.LeftParenthesis ∷ [] };
-
-    fn begins(kind: Kind) -> bool {
-        kind == Kind::LeftParenthesis
-    }
-
-    fn read<'a>(_alloc: Global, _tokens: &'a [Token], _budget: Budget) -> Read<'a, Expr> {
-        Err(ReadError::Memory)
-    }
-
-    ghost is_known = { enclosed_known };
-}
 
 /// `init`
 pub fn init<'a>(_alloc: Global, tokens: &'a [Token], budget: Budget) -> Read<'a, Init>
