@@ -1,5 +1,5 @@
 -- What reading gives of parts in a row, part by part.
-use Rattle.std.proofs.Common.{◌≡◌, ℕ, ◌+◌, Bool, true, false, cond, eqb, List, [], ◌∷◌, Ok, Err, refl, sym, subst, ◌∙◌}
+use Rattle.std.proofs.Common.{◌≡◌, ℕ, suc, ◌+◌, Bool, true, false, cond, eqb, List, [], ◌∷◌, Ok, Err, refl, subst, ◌∙◌, arith}
 use Rattle.std.proofs.lemmas.Bool.{eqb-true}
 use Rattle.sv_grammar.specs.Tokens.{Tok, next, mem}
 use Rattle.sv_grammar.specs.Language.{Out}
@@ -96,7 +96,7 @@ alt_second a b ks d ts is low h = rw (is, low, h) refl
 -- ---- one deeper
 
 pub one_deeper : (b d : ℕ) (n : Production) (ts : List Tok) → b + 1 ≡ d → reads d (Inner n) ts ≡ reads b (table n) ts
-one_deeper b d n ts e = subst (λ d. reads d (Inner n) ts ≡ reads b (table n) ts) e refl
+one_deeper b d n ts e = let s : suc b ≡ d = omega arith in subst (λ d. reads d (Inner n) ts ≡ reads b (table n) ts) s refl
 
 pub has_one : (b d : ℕ) → b + 1 ≡ d → reach 1 d ≡ true
-has_one b d e = subst (λ d. reach 1 d ≡ true) e refl
+has_one b d e = let s : suc b ≡ d = omega arith in subst (λ d. reach 1 d ≡ true) s refl

@@ -118,6 +118,17 @@ pub type_named : (d : ℕ) (ts : List Tok) → mem (next ts).code word_type_firs
 unfolding type named_type
 type_named d ts h = alt_second word_type named_type word_type_first d ts words_begin refl h
 
+-- ---- types in types
+
+pub type_deeper : (b d : ℕ) (ts : List Tok) → b + 1 ≡ d → reads d (Inner A_type) ts ≡ reads b type ts
+type_deeper b d ts e = one_deeper b d A_type ts e
+
+-- a mailbox with the type of its items
+pub mailbox_item : (b d : ℕ) (ts r1 r2 r3 r4 r5 : List Tok) (t u v w : Tok) (item : types.WrittenType) → b + 1 ≡ d → one_of (code k.Mailbox ∷ []) ts ≡ Ok (t, r1) → mem (next r1).code (code k.Hash ∷ []) ≡ true → one_of (code k.Hash ∷ []) r1 ≡ Ok (u, r2) → one_of (code k.LeftParenthesis ∷ []) r2 ≡ Ok (v, r3)
+    → reads b type r3 ≡ Ok (item, r4) → one_of (code k.RightParenthesis ∷ []) r4 ≡ Ok (w, r5) → reads d mailbox_type ts ≡ Ok (types.MailboxOf t.at item, r5)
+unfolding mailbox_type
+mailbox_item b d ts r1 r2 r3 r4 r5 t u v w item some word goes hash opens inner closes = rw (word, goes, has_one b d some, hash, opens, type_deeper b d r3 some, inner, closes) refl
+
 -- ---- enumerations
 
 pub enum_is : (d : ℕ) (ts : List Tok) → reads d enum ts ≡ reads d (triple enum_of (tok k.Enum) (optional (Inner A_type)) (in_braces (list enum_item))) ts
