@@ -1,2 +1,4 @@
 pub mod Shapes
 pub mod TypeLaws
+pub mod InitialLaws
+pub mod DeclarationLaws

@@ -32,6 +32,10 @@ pub word_low : least Production Value heads need word_type ≡ 0
 unfolding word_type
 word_low = rw vector_low refl
 
+pub type_low : least Production Value heads need type ≡ 0
+unfolding type
+type_low = rw word_low refl
+
 -- ---- the word that a type begins with
 
 -- the types after those of vectors, of atoms, and of each word

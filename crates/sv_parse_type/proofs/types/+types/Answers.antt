@@ -32,5 +32,5 @@ mailbox_type-returns-in_err-rest-3 t c =
 pub mailbox_type-returns : goal.mailbox_type-returns
 mailbox_type-returns t c =
     let read = mailbox_item c.in_ok-inner.inner c.args.budget (toks c.args.tokens.now) (toks c.in_ok-word.rest.now) (toks c.in_ok-rest.rest.now) (toks c.in_ok-rest-2.rest.now) (toks c.in_ok-item.rest.now) (toks c.in_ok-rest-3.rest.now) (tok c.in_ok-word.word.now) (tok c.in_ok-rest.field-0-0.now) (tok c.in_ok-rest-2.field-0-0.now) (tok c.in_ok-rest-3.field-0-0.now) (view.type c.in_ok-item.item)
-        c.in_ok-inner.ensures.0 c.in_ok-word.ensures (search rules) c.in_ok-rest.ensures c.in_ok-rest-2.ensures c.in_ok-item.ensures c.in_ok-rest-3.ensures in
+    c.in_ok-inner.ensures.0 c.in_ok-word.ensures (search rules) c.in_ok-rest.ensures c.in_ok-rest-2.ensures c.in_ok-item.ensures c.in_ok-rest-3.ensures in
     search rules
