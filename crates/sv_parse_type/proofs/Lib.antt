@@ -2,3 +2,4 @@ pub mod Shapes
 pub mod TypeLaws
 pub mod InitialLaws
 pub mod DeclarationLaws
+pub mod DimensionLaws

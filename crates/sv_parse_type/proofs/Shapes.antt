@@ -2,7 +2,7 @@
 use Rattle.std.proofs.Common.{◌≡◌, ℕ, suc, ◌+◌, Bool, true, false, cond, eqb, List, [], ◌∷◌, Ok, Err, refl, subst, ◌∙◌, arith}
 use Rattle.std.proofs.lemmas.Bool.{eqb-true}
 use Rattle.sv_grammar.specs.Tokens.{Tok, next, mem}
-use Rattle.sv_grammar.specs.Language.{Out}
+use Rattle.sv_grammar.specs.Language.{TooDeep, Out}
 use Rattle.sv_grammar.specs.Reading.{◌>>=◌}
 use Rattle.sv_grammar.specs.Code.{info, least, reach}
 use Rattle.sv_grammar.specs.Code.Code.{Alt, Inner}
@@ -92,6 +92,15 @@ alt_first a b ks d ts is low h = rw (is, low, h) refl
 -- the second of two, where none of the kinds of the first is next
 pub alt_second : {A : Type 0} (a b : C A) (ks : List ℕ) (d : ℕ) (ts : List Tok) → (info Production Value heads need a).first ≡ ks → least Production Value heads need b ≡ 0 → mem (next ts).code ks ≡ false → reads d (Alt a b) ts ≡ reads d b ts
 alt_second a b ks d ts is low h = rw (is, low, h) refl
+
+-- which of the two, where the second need not be deep
+pub alt_is : {A : Type 0} (a b : C A) (ks : List ℕ) (n d : ℕ) (ts : List Tok) → (info Production Value heads need a).first ≡ ks → least Production Value heads need a ≡ n → least Production Value heads need b ≡ 0
+    → reads d (Alt a b) ts ≡ cond (mem (next ts).code ks) (cond (reach n d) (reads d a ts) (Err (TooDeep ts))) (reads d b ts)
+alt_is a b ks n d ts is la lb = rw (is, la, lb) refl
+
+-- one of which the first need not be deep
+pub alt_low : {A : Type 0} (a b : C A) → least Production Value heads need a ≡ 0 → least Production Value heads need (Alt a b) ≡ 0
+alt_low a b low = rw low refl
 
 -- ---- one deeper
 
