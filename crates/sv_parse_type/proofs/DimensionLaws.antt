@@ -437,7 +437,7 @@ unfolding expr plain_expr
 plain_is d ts h = over_alike plain_unary unary d ts (unary_is d ts h)
 
 plain_low : least Production Value heads need plain ≡ 0
-unfolding plain_expr expr_over levels plain_unary
+unfolding plain_expr expr_over levels plain_unary prefixed
 plain_low = rw (operand_low, expr_known.low) refl
 
 plain_begins : (info Production Value heads need plain).first ≡ plain_first
