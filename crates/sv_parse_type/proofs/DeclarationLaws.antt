@@ -74,6 +74,8 @@ pub decl_plain : (d : ℕ) (ts : List Tok) → mem (next ts).code (kinds_of life
 unfolding var_decl
 decl_plain d ts h g = not_life d ts h ∙ alt_second var_decl plain_decl (code k.Var ∷ []) d ts refl plain_low g
 
+pub ruleset words_of_declarations = (decl_life, decl_var, decl_plain)
+
 -- a declaration whose type is the name before it
 pub named_decl_is : (d : ℕ) (n : Name) (ts : List Tok) → applied n (reads d named_decl_rest ts) ≡ (reads d name ts >>= λ m. applied m.0 (reads d more_declarators m.1) >>= λ ds. reads d (tok k.Semicolon) ds.1 >>= λ s. Ok (decl_of life_word.Unwritten (types.Named n) ds.0, s.1))
 unfolding named_decl_rest

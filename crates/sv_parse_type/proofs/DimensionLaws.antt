@@ -469,3 +469,5 @@ dimension_plain d at ts h e g =
 
 pub dimension_empty : (d : ℕ) (at : Place) (ts : List Tok) → mem (next ts).code cast_first ≡ false → mem (next ts).code (code k.Enum ∷ []) ≡ false → mem (next ts).code expr_first ≡ false → applied at (reads d dimension_inside ts) ≡ Ok (stmts.Empty at, ts)
 dimension_empty d at ts h e g = rw (past_enum d ts h e ∙ alt_second plain (Done stmts.Empty) plain_first d ts plain_begins refl (outside (next ts).code plain_first expr_first refl g)) refl
+
+pub ruleset without_type_word = (dimension_enum, dimension_plain, dimension_empty)

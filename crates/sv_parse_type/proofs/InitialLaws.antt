@@ -65,6 +65,8 @@ starts_array d ts h =
 pub starts_nothing : (d : ℕ) (ts : List Tok) → mem (next ts).code (code k.LeftParenthesis ∷ []) ≡ false → mem (next ts).code (code k.Name ∷ []) ≡ false → mem (next ts).code (code k.LeftBracket ∷ []) ≡ false → reads d new_rest ts ≡ Ok (new_alone, ts)
 starts_nothing d ts g h i = no_copy d ts g h ∙ alt_second array (Done new_alone) (code k.LeftBracket ∷ []) d ts refl refl i
 
+pub ruleset after_new = (starts_arguments, starts_copy, starts_array, starts_nothing)
+
 new_low : least Production Value heads need new_rest ≡ 0
 unfolding new_rest
 new_low = rw arguments_low refl

@@ -108,6 +108,8 @@ pub word_enum : (d : ℕ) (ts : List Tok) → mem (next ts).code (kinds_of vecto
 unfolding mailbox_type
 word_enum d ts vector atom text event semaphore h = not_semaphore d ts vector atom text event semaphore ∙ alt_second mailbox_type after_mailbox (code k.Mailbox ∷ []) d ts refl enum_low h
 
+pub ruleset words_of_types = (word_vector, word_atom, word_text, word_event, word_semaphore, word_mailbox, word_enum)
+
 -- ---- a word, or a name
 
 words_begin : (info Production Value heads need word_type).first ≡ word_type_first

@@ -5,8 +5,8 @@ ghost use Rattle.sv_tree.specs.Codes.{toks};
 ghost use Rattle.sv_tree.specs.TypeGrammar as grammar;
 ghost use Rattle.sv_tree.specs.StmtView as view;
 ghost use Rattle.sv_tree.specs.Grammar.{reads};
-ghost use Rattle.sv_parse.specs.Outcome.{Gives, Reads};
-ghost use Rattle.sv_parse_type.specs.Applied.{applied};
+ghost use Rattle.sv_parse.specs.Outcome.{Reads};
+ghost use Rattle.sv_parse_type.specs.Applied.{ReadsAfter};
 ghost use Rattle.sv_parse_type.specs.Begins.{word_decl_first};
 
 use crate::declarators::{declarator_list, more_declarators};
@@ -23,7 +23,7 @@ pub fn begins_word_decl(tokens: &[Token]) -> bool
 }
 
 /// `decl`, but for those that a name begins
-#[tactic(auto, using(crate::proofs::DeclarationLaws::decl_life, crate::proofs::DeclarationLaws::decl_var, crate::proofs::DeclarationLaws::decl_plain))]
+#[tactic(auto, using(crate::proofs::DeclarationLaws::words_of_declarations))]
 pub fn word_decl<'a>(alloc: Global, tokens: &'a [Token], budget: Budget) -> Read<'a, Decl>
     ensures { Reads view.decl budget grammar.word_decl tokens.now result }
 {
@@ -42,7 +42,7 @@ pub fn word_decl<'a>(alloc: Global, tokens: &'a [Token], budget: Budget) -> Read
 /// `["var"] type list(..) ";"`, after its life
 #[tactic(auto, using(crate::proofs::DeclarationLaws::with_var, crate::proofs::DeclarationLaws::without_var))]
 fn var_typed<'a>(alloc: Global, life: Life, tokens: &'a [Token], budget: Budget) -> Read<'a, Decl>
-    ensures { Gives (λ x. (view.decl x.0, toks x.1.now)) result (applied life (reads budget grammar.var_typed (toks tokens.now))) }
+    ensures { ReadsAfter view.decl life budget grammar.var_typed tokens.now result }
 {
     if !is_next(tokens, Kind::Var) {
         return typed(alloc, life, tokens, budget);
@@ -85,7 +85,7 @@ pub fn named_decl_rest<'a>(
     tokens: &'a [Token],
     budget: Budget,
 ) -> Read<'a, Decl>
-    ensures { Gives (λ x. (view.decl x.0, toks x.1.now)) result (applied of (reads budget grammar.named_decl_rest (toks tokens.now))) }
+    ensures { ReadsAfter view.decl of budget grammar.named_decl_rest tokens.now result }
 {
     let (first, rest) = name(alloc, tokens)?;
     let (names, rest) = more_declarators(alloc, first, rest, budget)?;

@@ -6,9 +6,9 @@ ghost use Rattle.sv_tree.specs.Stmt as stmts;
 ghost use Rattle.sv_tree.specs.TypeGrammar as grammar;
 ghost use Rattle.sv_tree.specs.StmtView as view;
 ghost use Rattle.sv_tree.specs.Grammar.{reads};
-ghost use Rattle.sv_parse.specs.Outcome.{Gives, Reads, seen};
+ghost use Rattle.sv_parse.specs.Outcome.{Reads, seen};
 ghost use Rattle.sv_parse.proofs.TypeParts.{declarator_known, declarator_listed};
-ghost use Rattle.sv_parse_type.specs.Applied.{applied};
+ghost use Rattle.sv_parse_type.specs.Applied.{ReadsAfter};
 
 use crate::dimensions::Dimensions;
 use crate::initial::Inits;
@@ -55,7 +55,7 @@ fn declarator_rest<'a>(
     tokens: &'a [Token],
     budget: Budget,
 ) -> Read<'a, Declarator>
-    ensures { Gives (λ x. (view.declarator x.0, toks x.1.now)) result (applied name (reads budget grammar.declarator_rest (toks tokens.now))) }
+    ensures { ReadsAfter view.declarator name budget grammar.declarator_rest tokens.now result }
 {
     let (dimension, rest) = maybe::<Dimensions>(alloc, tokens, budget)?;
     let (init, rest) = maybe::<Inits>(alloc, rest, budget)?;
@@ -87,7 +87,7 @@ pub fn more_declarators<'a>(
     tokens: &'a [Token],
     budget: Budget,
 ) -> Read<'a, Vec<Declarator>>
-    ensures { Gives (λ x. (seen view.declarator x.0, toks x.1.now)) result (applied name (reads budget grammar.more_declarators (toks tokens.now))) }
+    ensures { ReadsAfter (seen view.declarator) name budget grammar.more_declarators tokens.now result }
 {
     let (first, rest) = declarator_rest(alloc, name, tokens, budget)?;
     list_after::<Declarators>(alloc, first, rest, budget)

@@ -9,10 +9,10 @@ ghost use Rattle.sv_tree.specs.TypeGrammar as grammar;
 ghost use Rattle.sv_tree.specs.View.{expr};
 ghost use Rattle.sv_tree.specs.StmtView as view;
 ghost use Rattle.sv_tree.specs.Grammar.{reads};
-ghost use Rattle.sv_parse.specs.Outcome.{Gives, Reads};
+ghost use Rattle.sv_parse.specs.Outcome.{Reads};
 ghost use Rattle.sv_parse.proofs.TypeParts.{dimension_known};
 ghost use Rattle.sv_parse_expr.specs.First.{cast_first};
-ghost use Rattle.sv_parse_type.specs.Applied.{applied};
+ghost use Rattle.sv_parse_type.specs.Applied.{ReadsAfter};
 
 use crate::types::word_type;
 use std::alloc::Global;
@@ -51,14 +51,14 @@ impl Part for Dimensions {
 }
 
 /// What stands in the brackets of a dimension, which opens at this place.
-#[tactic(auto, using(crate::proofs::DimensionLaws::dimension_enum, crate::proofs::DimensionLaws::dimension_plain, crate::proofs::DimensionLaws::dimension_empty))]
+#[tactic(auto, using(crate::proofs::DimensionLaws::without_type_word))]
 fn dimension_inside<'a>(
     alloc: Global,
     at: Place,
     tokens: &'a [Token],
     budget: Budget,
 ) -> Read<'a, Dimension>
-    ensures { Gives (λ x. (view.dimension x.0, toks x.1.now)) result (applied at (reads budget grammar.dimension_inside (toks tokens.now))) }
+    ensures { ReadsAfter view.dimension at budget grammar.dimension_inside tokens.now result }
 {
     if begins_cast(tokens) {
         return word_dimension(alloc, at, tokens, budget);
@@ -83,7 +83,7 @@ fn word_dimension<'a>(
     budget: Budget,
 ) -> Read<'a, Dimension>
     requires { mem (next (toks tokens.now)).code cast_first ≡ true }
-    ensures { Gives (λ x. (view.dimension x.0, toks x.1.now)) result (applied at (reads budget grammar.dimension_inside (toks tokens.now))) }
+    ensures { ReadsAfter view.dimension at budget grammar.dimension_inside tokens.now result }
 {
     let (to, rest) = cast_word(tokens)?;
     if !is_next(rest, Kind::Apostrophe) {

@@ -10,9 +10,9 @@ ghost use Rattle.sv_tree.specs.TypeGrammar as grammar;
 ghost use Rattle.sv_tree.specs.View.{actuals, expr};
 ghost use Rattle.sv_tree.specs.StmtView as view;
 ghost use Rattle.sv_tree.specs.Grammar.{reads};
-ghost use Rattle.sv_parse.specs.Outcome.{Gives, Reads, seen};
+ghost use Rattle.sv_parse.specs.Outcome.{Reads, seen};
 ghost use Rattle.sv_parse.proofs.TypeParts.{given_init_known};
-ghost use Rattle.sv_parse_type.specs.Applied.{applied};
+ghost use Rattle.sv_parse_type.specs.Applied.{ReadsAfter};
 
 use std::alloc::Global;
 use sv_parse::{Budget, Part, Read, expect, is_next, list_or_none, maybe, name};
@@ -60,9 +60,9 @@ pub fn init<'a>(alloc: Global, tokens: &'a [Token], budget: Budget) -> Read<'a, 
 }
 
 /// What follows a `new` at this place.
-#[tactic(auto, using(crate::proofs::InitialLaws::starts_arguments, crate::proofs::InitialLaws::starts_copy, crate::proofs::InitialLaws::starts_array, crate::proofs::InitialLaws::starts_nothing))]
+#[tactic(auto, using(crate::proofs::InitialLaws::after_new))]
 fn new_rest<'a>(alloc: Global, at: Place, tokens: &'a [Token], budget: Budget) -> Read<'a, Init>
-    ensures { Gives (λ x. (view.init x.0, toks x.1.now)) result (applied at (reads budget grammar.new_rest (toks tokens.now))) }
+    ensures { ReadsAfter view.init at budget grammar.new_rest tokens.now result }
 {
     if is_next(tokens, Kind::LeftParenthesis) {
         let (list, rest) = enclosed_exprs(alloc, tokens, budget)?;

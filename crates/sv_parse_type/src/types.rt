@@ -257,7 +257,7 @@ fn mailbox_type<'a>(alloc: Global, tokens: &'a [Token], budget: Budget) -> Read<
 
 /// A type that a word begins.
 #[cycle(types)]
-#[tactic(auto, using(crate::proofs::TypeLaws::word_vector, crate::proofs::TypeLaws::word_atom, crate::proofs::TypeLaws::word_text, crate::proofs::TypeLaws::word_event, crate::proofs::TypeLaws::word_semaphore, crate::proofs::TypeLaws::word_mailbox, crate::proofs::TypeLaws::word_enum))]
+#[tactic(auto, using(crate::proofs::TypeLaws::words_of_types))]
 pub fn word_type<'a>(alloc: Global, tokens: &'a [Token], budget: Budget) -> Read<'a, WrittenType>
     ensures { Reads view.type budget grammar.word_type tokens.now result }
 {
