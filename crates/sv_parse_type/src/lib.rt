@@ -11,6 +11,8 @@ mod declarations;
 mod declarators;
 mod dimensions;
 mod initial;
+#[cfg(test)]
+mod tests;
 mod types;
 
 pub use declarations::{begins_word_decl, named_decl_rest, typed, word_decl};
