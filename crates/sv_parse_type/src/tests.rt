@@ -57,7 +57,7 @@ fn dimension(alloc: Global, kinds: &[Kind]) -> Result<Told, AllocError> {
         Ok(read) => read,
         Err(error) => return Ok(fault(error)),
     };
-    let form = match dimension {
+    let form = match &dimension {
         Dimension::Empty(_) => "empty",
         Dimension::Size(_, _) => "size",
         Dimension::Bounds(_) => "bounds",
@@ -75,7 +75,7 @@ fn type_within(alloc: Global, kinds: &[Kind], budget: Budget) -> Result<Told, Al
         Ok(read) => read,
         Err(error) => return Ok(fault(error)),
     };
-    let form = match of {
+    let form = match &of {
         WrittenType::Vector { .. } => "vector",
         WrittenType::MailboxOf(_, _) => "mailbox of",
         WrittenType::EnumOf { .. } => "enum of",
