@@ -211,7 +211,7 @@ fn enum_over<'a>(
     tokens: &'a [Token],
     budget: Budget,
 ) -> Read<'a, WrittenType>
-    ensures { Reads view.type budget (Map (λ is. types.EnumOf at (view.type base) is) (in_braces (list grammar.enum_item))) tokens.now result }
+    ensures { Reads view.type budget (Map (types.EnumOf at (view.type base)) (in_braces (list grammar.enum_item))) tokens.now result }
 {
     let base = Box::new(alloc, base)?;
     let (items, rest) = enum_items(alloc, tokens, budget)?;
