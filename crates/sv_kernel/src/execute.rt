@@ -1,4 +1,4 @@
-// Runs one statement of the running process: branches, loops, blocks and `$finish`. Other forms have rooms of their own.
+// Runs a statement of the running process: branches, loops, blocks and `$finish`. Other forms have rooms of their own.
 ghost use Rattle.std.specs.Prelude.{◌≡◌, ◌≢◌, ◌<◌, ◌≤◌, ◌++◌, ◌+◌, ◌^◌, ℕ, OnOk, IfOk, IsNone, Some, length, sum_by, ◌∷◌, [], List, IfSome, None, slice_get, slice_set, if◌then◌else◌, true};
 ghost use Rattle.std.specs.List.{Contains, AllByRecursion};
 ghost use Rattle.sv_value.specs.Regions.{standing};
@@ -11,7 +11,7 @@ ghost use Rattle.sv_flat.specs.Eval.{vector_in};
 ghost use Rattle.sv_value.specs.Operators.{is_true};
 ghost use Rattle.sv_flat.specs.Sound.{IsSound, weight_of_all, IsPlainStrobe};
 ghost use Rattle.sv_flat.specs.Short.{short, value_now, gone_on, assigned, target_value, object_of, text_now, printed_now, strobe_kept, watching};
-ghost use Rattle.sv_kernel.specs.Frames.{stmts_left, all_left, list_at, is_more, stmt_at};
+ghost use Rattle.sv_kernel.specs.Frames.{stmts_left, all_left, list_at, is_more, stmt_at, goes_on};
 ghost use Rattle.sv_kernel.specs.Machine.{Makes, AddsRecords, MayRun, SameMoment};
 ghost use Rattle.sv_kernel.specs.Prints.{strobe_at};
 ghost use Rattle.sv_kernel.specs.Statements.{Adds, Does};
@@ -175,7 +175,7 @@ pub fn go_on(machine: &mut Machine, design: &Design, process: ProcessId)
         ≡ record machine.old { processes = machine.new.processes; running = machine.new.running } }
     ensures left { all_left design.now machine.new.processes.items ≡ all_left design.now machine.old.processes.items }
     ensures running { machine.new.running
-        ≡ (if is_more (list_at (all_left design.now machine.old.processes.items) process.0) then Some process else None) }
+        ≡ goes_on process (list_at (all_left design.now machine.old.processes.items) process.0) }
 {
     let is_more = is_more_at(&mut machine.processes, design, process);
     machine.running = if is_more { Some(process) } else { None };

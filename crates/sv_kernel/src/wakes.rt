@@ -108,7 +108,8 @@ fn watches_of(form: &Form) -> &[Watch]
 pub fn wakes(design: &Design, at: Frame, values: &[Bits], change: &Option<Change>) -> bool
     requires built { IsBuilt design.now }
     requires each { length values.now ≡ length design.now.objects }
-    ensures { AtChange values.now change.now (λ old new. result ≡ some_fires (watches_in (stmt_at design.now at)) Changed old new) }
+    ensures { AtChange values.now change.now
+        (λ old new. result ≡ some_fires (watches_in (stmt_at design.now at)) Changed old new) }
 {
     match design.body(at.body).get(at.next) {
         Some(stmt) => some_fires(design, watches_of(&stmt.form), values, change),
@@ -129,7 +130,8 @@ fn wake_one(
     requires each { length values.now ≡ length design.now.objects }
     requires known { number < length design.now.processes }
     requires count { length waits.old.items ≡ length design.now.processes }
-    requires absent { (f : Frame) → slice_get waits.old.items number ≡ Some (Some f) → ¬ Contains (standing regions.old) (record { 0 = number }) }
+    requires absent { (f : Frame) → slice_get waits.old.items number ≡ Some (Some f)
+        → ¬ Contains (standing regions.old) (record { 0 = number }) }
     requires few { length (standing regions.old) < 2 ^ 31 }
     ensures { OnOk result ((s : Side) → slice_get (sides design.now) number ≡ Some s
         → TriedOne design.now values.now change.now number s waits.old.items regions.old waits.new.items regions.new) }
