@@ -19,6 +19,12 @@ reach_short a d le = go (reach (suc a) d) refl
     go true e = let h = reach-le (suc a) d e in absurd (omega arith)
     go false e = refl
 
+pub reach_two : (d inner innermost : ℕ) → inner + 1 ≡ d → innermost + 1 ≡ inner → reach 2 d ≡ true
+reach_two d inner innermost is fits = le-reach 2 d (omega arith)
+
+pub reach_not_two : (d inner : ℕ) → inner + 1 ≡ d → inner ≡ 0 → reach 2 d ≡ false
+reach_not_two d inner is none = reach_short 1 d (omega arith)
+
 -- a production that is one deeper
 pub inner_of : (e : ℕ) (n : Production) (ts : List Tok) → readers Production Value heads need table (e + 1) n ts ≡ reads e (table n) ts
 inner_of e n ts = rw (add-one e) refl

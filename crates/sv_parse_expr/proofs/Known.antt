@@ -1,8 +1,8 @@
 -- What is known of the productions of expressions.
-use Rattle.std.proofs.Common.{◌≡◌, ℕ, Bool, true, false, cond, ◌==◌, eqb, List, [], ◌∷◌, Ok, Err, refl, arith}
+use Rattle.std.proofs.Common.{◌≡◌, ℕ, Bool, true, false, cond, ◌==◌, eqb, List, [], ◌∷◌, map, Ok, Err, refl, sym, ap, ◌∙◌, arith}
 use Rattle.std.proofs.lemmas.Bool.{eqb-true}
 use Rattle.sv_grammar.specs.Tokens.{Tok, next, mem}
-use Rattle.sv_grammar.specs.Language.{Unexpected}
+use Rattle.sv_grammar.specs.Language.{Unexpected, Out}
 use Rattle.sv_grammar.specs.Reading.{◌>>=◌}
 use Rattle.sv_grammar.specs.Code.{fine, info, least, reach}
 use Rattle.sv_grammar.specs.Code.Code.{Rep}
@@ -15,11 +15,17 @@ use Rattle.sv_tree.specs.Forms.{Production, Value, comma, list, list_or_none}
 use Rattle.sv_tree.specs.Grammar.{heads, need, table, reads, texts_of, expr_first, prim_first}
 use Rattle.sv_tree.specs.ExprGrammar.{expr, prim, plain_prim, word_cast, number, time, text, null_, dollar, group, named, post_rest, this, this_post, super_call, system_call, braces, closed, cast, suffixes, suffix, select, comma_expr}
 use Rattle.sv_tree.proofs.Good.{good}
+use Rattle.sv_tree.specs.declared.expr.Suffix.{Suffix}
+use Rattle.sv_tree.specs.View.{suffix as suffix_view, suffix_list}
+use Rattle.sv_parse.specs.Outcome.{Fails}
+use Rattle.sv_parse.specs.declared.tokens.ReadError.{ReadError}
+use Rattle.sv_parse.specs.declared.tokens.ReadError.TheVariants as errors
 use Rattle.sv_parse.specs.Parts.{from}
 use Rattle.sv_parse.proofs.Loops.{IsLoop, loop_is, loop_stop}
 use Rattle.sv_parse.proofs.PartLaws as laws
 use Rattle.sv_parse.proofs.ExprParts.{expr_known, expr_listed}
 use Rattle.sv_parse_expr.specs.First.{suffix_first}
+use Rattle.sv_parse_expr.proofs.Lists.{suffixes_are_stacked}
 
 -- the one kind of a list
 pub is_one : (n m : ℕ) → mem n (m ∷ []) ≡ true → n ≡ m
@@ -57,6 +63,21 @@ suffixes_are d ts = loop_is suffix suffix_first 0 suffixes_loop d ts
 
 pub suffixes_stop : (d : ℕ) (prefix : List (tree.Suffixes → tree.Suffixes)) (ts : List Tok) → mem (next ts).code suffix_first ≡ false → from suffix d prefix ts ≡ Ok (prefix, ts)
 suffixes_stop d prefix ts h = loop_stop suffix suffix_first 0 suffixes_loop d prefix ts h
+
+-- what follows a name is read to its end
+pub suffixes_read : (d : ℕ) (ss : List Suffix) (rest ts : List Tok) → from suffix d (map suffix_view ss) rest ≡ reads d (Rep suffix) ts → mem (next rest).code suffix_first ≡ false → reads d suffixes ts ≡ Ok (suffix_list ss, rest)
+unfolding suffixes
+suffixes_read d ss rest ts told h = rw (sym told ∙ suffixes_stop d (map suffix_view ss) rest h) (ap (λ (x : tree.Suffixes). read_as (x, rest)) (suffixes_are_stacked ss))
+  where
+    read_as : tree.Suffixes × List Tok → Out tree.Suffixes
+    read_as x = Ok x
+
+-- where one of them fails, all fail
+pub suffixes_fail : (d : ℕ) (ts : List Tok) (e : ReadError) → Fails e (reads d (Rep suffix) ts) → Fails e (reads d suffixes ts)
+unfolding suffixes
+suffixes_fail d ts errors.Memory h = tt
+suffixes_fail d ts (errors.TooDeep rest) h = rw h refl
+suffixes_fail d ts (errors.Unexpected rest) h = rw h refl
 
 -- what follows a name may be nothing
 pub post_rest_low : least Production Value heads need post_rest ≡ 0

@@ -254,8 +254,8 @@ pub fn bracket_of(
 ) -> Result<Measured<Expr>, NoMemory>
     requires low { inner.depth < most_depth }
     requires depth { inner.depth ≡ depth (view.expr inner.tree) }
-    ensures tree { IfOk result (λ m. view.expr m.tree ≡ bracketed opening (view.expr inner.entry.tree)) }
-    ensures depth { IfOk result (λ m. (m.depth ≡ depth (view.expr m.tree)) × (m.depth ≡ inner.entry.depth + 1)) }
+    ensures tree { IfOk result (λ m. view.expr m.tree ≡ bracketed opening (view.expr inner.tree)) }
+    ensures depth { IfOk result (λ m. (m.depth ≡ depth (view.expr m.tree)) × (m.depth ≡ inner.depth + 1)) }
 {
     let depth = inner.depth + 1;
     let inner = Box::new(alloc, inner.tree)?;
@@ -269,8 +269,8 @@ pub fn bracket_of(
 /// A call with the arguments that were read.
 pub fn call_of(callee: Callee, actuals: Measured<Actuals>) -> Measured<Expr>
     requires { actuals.depth ≡ actuals_depth (view.actuals actuals.tree) }
-    ensures tree { view.expr result.tree ≡ called callee (view.actuals actuals.entry.tree) }
-    ensures depth { (result.depth ≡ depth (view.expr result.tree)) × (result.depth ≡ actuals.entry.depth) }
+    ensures tree { view.expr result.tree ≡ called callee (view.actuals actuals.tree) }
+    ensures depth { (result.depth ≡ depth (view.expr result.tree)) × (result.depth ≡ actuals.depth) }
 {
     let Measured {
         tree: actuals,

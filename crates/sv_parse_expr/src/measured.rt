@@ -45,9 +45,9 @@ pub fn joined(
     requires right { right.depth < most_depth }
     requires left_depth { left.depth ≡ depth (view.expr left.tree) }
     requires right_depth { right.depth ≡ depth (view.expr right.tree) }
-    ensures tree { IfOk result (λ m. view.expr m.tree ≡ tree.Binary word at (view.expr left.entry.tree) (view.expr right.entry.tree)) }
+    ensures tree { IfOk result (λ m. view.expr m.tree ≡ tree.Binary word at (view.expr left.tree) (view.expr right.tree)) }
     ensures depth { IfOk result (λ m. m.depth ≡ depth (view.expr m.tree)) }
-    ensures grows { IfOk result (λ m. (left.entry.depth < m.depth) × ((b : ℕ) → left.entry.depth < b → right.entry.depth < b → m.depth ≤ b)) }
+    ensures grows { IfOk result (λ m. (left.depth < m.depth) × ((b : ℕ) → left.depth < b → right.depth < b → m.depth ≤ b)) }
 {
     let depth = larger(left.depth, right.depth) + 1;
     let tree = Expr::Binary {
@@ -72,9 +72,9 @@ pub fn chosen(
     requires condition_depth { condition.depth ≡ depth (view.expr condition.tree) }
     requires yes_depth { yes.depth ≡ depth (view.expr yes.tree) }
     requires no_depth { no.depth ≡ depth (view.expr no.tree) }
-    ensures tree { IfOk result (λ m. view.expr m.tree ≡ tree.Choose (view.expr condition.entry.tree) (view.expr yes.entry.tree) (view.expr no.entry.tree)) }
+    ensures tree { IfOk result (λ m. view.expr m.tree ≡ tree.Choose (view.expr condition.tree) (view.expr yes.tree) (view.expr no.tree)) }
     ensures depth { IfOk result (λ m. m.depth ≡ depth (view.expr m.tree)) }
-    ensures grows { IfOk result (λ m. (b : ℕ) → condition.entry.depth < b → yes.entry.depth < b → no.entry.depth < b → m.depth ≤ b) }
+    ensures grows { IfOk result (λ m. (b : ℕ) → condition.depth < b → yes.depth < b → no.depth < b → m.depth ≤ b) }
 {
     let depth = larger(condition.depth, larger(yes.depth, no.depth)) + 1;
     let tree = Expr::Choose {

@@ -42,7 +42,6 @@ pub fn named_root(first: Name, second: Option<Name>) -> Root
 }
 
 /// Members, calls and selects after a name: `{"." id | actuals | sel}`
-#[tactic(auto, using(crate::proofs::Lists::suffixes_are_stacked), unfolding(sv_tree::specs::ExprGrammar::suffixes))]
 pub fn suffixes<'a>(alloc: Global, tokens: &'a [Token], budget: Budget) -> Read<'a, Vec<Suffix>>
     ensures { Reads views.all_suffixes budget grammar.suffixes tokens.now result }
 {

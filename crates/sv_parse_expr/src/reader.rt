@@ -1,6 +1,5 @@
 // Reading expressions (IEEE 1800-2017, A.8).
 ghost use Rattle.std.specs.Prelude.{◌≡◌, ◌+◌, ◌<◌, ◌≤◌, ◌∷◌, [], IfOk, map};
-ghost use Rattle.sv_grammar.specs.Code.Code.{Rep};
 ghost use Rattle.sv_tree.specs.Codes.{toks};
 ghost use Rattle.sv_tree.specs.Depth.{depth, most_depth};
 ghost use Rattle.sv_tree.specs.View as view;
@@ -35,6 +34,7 @@ fn comma_expr<'a>(alloc: Global, tokens: &'a [Token], budget: Budget) -> Read<'a
 
 /// `{"," expr}` behind a first expression.
 #[cycle(expr)]
+#[tactic(auto, using(crate::proofs::Known::commas_stop, crate::proofs::Lists::exprs_depth_one))]
 fn exprs_after<'a>(
     alloc: Global,
     first: Measured<Expr>,
@@ -42,7 +42,7 @@ fn exprs_after<'a>(
     budget: Budget,
 ) -> Read<'a, Measured<Vec<Expr>>>
     requires { Fitting budget first }
-    ensures reads { Gives (λ x. (exprs x.0.tree, toks x.1.now)) result (from (comma grammar.expr) budget (view.expr first.entry.tree ∷ []) (toks tokens.now)) }
+    ensures reads { Gives (λ x. (exprs x.0.tree, toks x.1.now)) result (from (comma grammar.expr) budget (view.expr first.tree ∷ []) (toks tokens.now)) }
     ensures depth { IfOk result (λ x. FittingExprs budget x.0) }
 {
     let mut list = Vec::new(alloc);
@@ -108,7 +108,7 @@ fn arguments<'a>(
 
 /// `[actuals]`
 #[cycle(expr)]
-#[tactic(auto, using(crate::proofs::Budgets::inner_is, crate::proofs::Budgets::reach_one))]
+#[tactic(auto, using(crate::proofs::Budgets::inner_at, crate::proofs::Budgets::reach_one))]
 pub fn measured_actuals<'a>(
     alloc: Global,
     tokens: &'a [Token],
@@ -183,7 +183,7 @@ fn select<'a>(alloc: Global, tokens: &'a [Token], inner: Budget) -> Read<'a, Mea
 
 /// `"." id | actuals | sel`
 #[cycle(expr)]
-#[tactic(auto, using(crate::proofs::Budgets::inner_is, crate::proofs::Budgets::reach_one), unfolding(sv_tree::specs::ExprGrammar::suffix, sv_tree::specs::ExprGrammar::select))]
+#[tactic(auto, using(crate::proofs::Budgets::inner_at, crate::proofs::Budgets::reach_one), unfolding(sv_tree::specs::ExprGrammar::suffix, sv_tree::specs::ExprGrammar::select))]
 fn suffix<'a>(alloc: Global, tokens: &'a [Token], budget: Budget) -> Read<'a, Measured<Suffix>>
     ensures reads { Reads (measured view.suffix) budget grammar.suffix tokens.now result }
     ensures depth { IfOk result (λ x. FittingSuffix budget x.0) }
@@ -226,13 +226,13 @@ fn suffix<'a>(alloc: Global, tokens: &'a [Token], budget: Budget) -> Read<'a, Me
 
 /// `{"." id | actuals | sel}`
 #[cycle(expr)]
-#[tactic(auto, using(crate::proofs::Known::suffixes_are, crate::proofs::Known::suffixes_stop))]
+#[tactic(auto, using(crate::proofs::Known::suffixes_are))]
 pub fn measured_suffixes<'a>(
     alloc: Global,
     tokens: &'a [Token],
     budget: Budget,
 ) -> Read<'a, Measured<Vec<Suffix>>>
-    ensures reads { Gives (λ x. (map view.suffix x.0.tree.items, toks x.1.now)) result (reads budget (Rep grammar.suffix) (toks tokens.now)) }
+    ensures reads { Reads (measured all_suffixes) budget grammar.suffixes tokens.now result }
     ensures depth { IfOk result (λ x. FittingSuffixes budget x.0) }
 {
     let mut list = Vec::new(alloc);
@@ -337,7 +337,7 @@ pub fn prim<'a>(alloc: Global, tokens: &'a [Token], budget: Budget) -> Read<'a, 
 
 /// An operand, with operators before it or without.
 #[cycle(expr)]
-#[tactic(auto, using(crate::proofs::Budgets::inner_is, crate::proofs::Budgets::reach_one, crate::proofs::Known::prim_low), unfolding(sv_tree::specs::ExprGrammar::unary, sv_tree::specs::ExprGrammar::prefixed, sv_tree::specs::ExprGrammar::levels))]
+#[tactic(auto, using(crate::proofs::Budgets::inner_at, crate::proofs::Budgets::reach_one, crate::proofs::Known::prim_low), unfolding(sv_tree::specs::ExprGrammar::unary, sv_tree::specs::ExprGrammar::prefixed, sv_tree::specs::ExprGrammar::levels))]
 fn unary<'a>(alloc: Global, tokens: &'a [Token], budget: Budget) -> Read<'a, Measured<Expr>>
     ensures reads { Reads (measured view.expr) budget grammar.unary tokens.now result }
     ensures depth { IfOk result (λ x. Fitting budget x.0) }
@@ -373,7 +373,7 @@ pub fn operators<'a>(
     precedences: &[Precedence],
 ) -> Read<'a, Measured<Expr>>
     requires { Fitting budget operand }
-    ensures reads { Gives (λ x. (view.expr x.0.tree, toks x.1.now)) result (climbed precedences.now budget (view.expr operand.entry.tree) (toks tokens.now)) }
+    ensures reads { Gives (λ x. (view.expr x.0.tree, toks x.1.now)) result (climbed precedences.now budget (view.expr operand.tree) (toks tokens.now)) }
     ensures depth { IfOk result (λ x. Fitting budget x.0) }
 {
     let [weakest, others @ ..] = precedences else {
@@ -411,7 +411,7 @@ fn level<'a>(
 
 /// What may follow a condition.
 #[cycle(expr)]
-#[tactic(auto, using(crate::proofs::Budgets::inner_is, crate::proofs::Budgets::reach_more, crate::proofs::Budgets::reach_short, crate::proofs::Budgets::reach_one), unfolding(crate::specs::Chains::choices))]
+#[tactic(auto, using(crate::proofs::Budgets::inner_at, crate::proofs::Budgets::reach_more, crate::proofs::Budgets::reach_short, crate::proofs::Budgets::reach_one), unfolding(crate::specs::Chains::choices))]
 pub fn choose<'a>(
     alloc: Global,
     condition: Measured<Expr>,
@@ -419,7 +419,7 @@ pub fn choose<'a>(
     budget: Budget,
 ) -> Read<'a, Measured<Expr>>
     requires { Fitting budget condition }
-    ensures reads { Gives (λ x. (view.expr x.0.tree, toks x.1.now)) result (choices budget (view.expr condition.entry.tree) (toks tokens.now)) }
+    ensures reads { Gives (λ x. (view.expr x.0.tree, toks x.1.now)) result (choices budget (view.expr condition.tree) (toks tokens.now)) }
     ensures depth { IfOk result (λ x. Fitting budget x.0) }
 {
     if !is_next(tokens, Kind::Question) {

@@ -33,7 +33,7 @@ pub fn lval<'a>(alloc: Global, tokens: &'a [Token], budget: Budget) -> Read<'a, 
 
 /// `"{" list(lval) "}"`
 #[cycle(target)]
-#[tactic(auto, using(crate::proofs::Lists::lvals_are_listed, crate::proofs::Lists::inner_list), unfolding(sv_tree::specs::ExprGrammar::targets))]
+#[tactic(auto, using(crate::proofs::Lists::lvals_are_listed, crate::proofs::Lists::inner_lvals_are), unfolding(sv_tree::specs::ExprGrammar::targets))]
 pub fn targets<'a>(alloc: Global, tokens: &'a [Token], budget: Budget) -> Read<'a, Lval>
     requires { 0 < budget }
     ensures { Reads view.lval budget grammar.targets tokens.now result }
