@@ -1,19 +1,21 @@
 -- How a chain of operators goes on.
-use Rattle.std.proofs.Common.{◌≡◌, ℕ, suc, ◌+◌, ◌≤◌, ◌<◌, Bool, true, false, cond, ◌&&◌, List, [], ◌∷◌, length, Ok, Err, refl, sym, ap, subst, ◌∙◌, arith}
+use Rattle.std.proofs.Common.{◌≡◌, ℕ, suc, ◌+◌, ◌-◌, ◌≤◌, ◌<◌, Bool, true, false, cond, ◌&&◌, List, [], ◌∷◌, length, drop, take, get_or, Ok, Err, refl, sym, ap, subst, ◌∙◌, arith}
+use Rattle.std.proofs.lemmas.List.{take_rest}
 use Rattle.sv_grammar.specs.Tokens.{Tok, next, mem}
 use Rattle.sv_grammar.specs.Language.{Miss, TooDeep, Unexpected, Out}
 use Rattle.sv_grammar.specs.Reading.{◌>>=◌, one_of}
-use Rattle.sv_grammar.specs.Code.{fine, reach, chain_from}
-use Rattle.sv_grammar.specs.Code.Code.{Chain}
+use Rattle.sv_grammar.specs.Code.{fine, reach, readers, chain_from}
+use Rattle.sv_grammar.specs.Code.Code.{Chain, Inner}
 use Rattle.sv_grammar.proofs.Budgets.{le-reach}
 use Rattle.sv_grammar.proofs.Answers.{no_true}
 use Rattle.sv_grammar.proofs.Steps.{chain_stop, chain_deep, chain_fail, chain_more}
 use Rattle.sv_tree.specs.declared.word.Precedence.{Precedence}
 use Rattle.sv_tree.specs.declared.word.Precedence.TheVariants as precedence
-use Rattle.sv_tree.specs.Codes.{toks}
+use Rattle.sv_tree.specs.declared.kind.Kind.TheVariants as k
+use Rattle.sv_tree.specs.Codes.{code, toks}
 use Rattle.sv_tree.specs.Depth.{depth}
 use Rattle.sv_tree.specs.Expr as tree
-use Rattle.sv_tree.specs.Forms.{Production, Level, Value, C, kinds_of}
+use Rattle.sv_tree.specs.Forms.{Production, Expression, Level, Value, C, kinds_of}
 use Rattle.sv_tree.specs.ExprGrammar.{levels, unary, expr, expr_over, link, joined, binary_words, precedences, stronger, prefixed, prim, plain_prim, word_cast, number, time, text, null_, dollar, group, named, post_rest, this, this_post, super_call, system_call, braces, closed, cast, suffixes, suffix, select, comma_expr}
 use Rattle.sv_tree.specs.Grammar.{table, heads, need, reads}
 use Rattle.sv_tree.proofs.Good.{good}
@@ -22,6 +24,7 @@ use Rattle.sv_parse.specs.declared.tokens.ReadError.{ReadError}
 use Rattle.sv_parse.specs.declared.tokens.ReadError.TheVariants as errors
 use Rattle.sv_parse_expr.specs.Chains.{links, choices, climbed}
 use Rattle.sv_parse_expr.proofs.Budgets.{inner_at, reach_short}
+use Rattle.sv_parse_expr.proofs.Outcomes.{made, beside, row}
 
 -- one reader after another, and a third
 bind_joins : {A B D : Type 0} (o : Out A) (f : A × List Tok → Out B) (g : B × List Tok → Out D) → ((o >>= f) >>= g) ≡ (o >>= λ x. f x >>= g)
@@ -41,13 +44,18 @@ levels_are operand (p ∷ ps) d ts = rw (levels_are operand ps d ts) (bind_joins
 pub level_is : (ps : List Precedence) (d : ℕ) (ts : List Tok) → reads d (levels unary ps) ts ≡ (reads d unary ts >>= λ a. climbed ps d a.0 a.1)
 level_is ps d ts = levels_are unary ps d ts
 
-pub climbed_none : (d : ℕ) (a : tree.Expr) (ts : List Tok) → climbed [] d a ts ≡ Ok (a, ts)
+pub climbed_none : (ps : List Precedence) (d : ℕ) (a : tree.Expr) (ts : List Tok) → length ps < 1 → climbed ps d a ts ≡ Ok (a, ts)
 unfolding climbed
-climbed_none d a ts = refl
+climbed_none [] d a ts few = refl
+climbed_none (p ∷ ps) d a ts few = absurd (omega arith)
 
-pub climbed_some : (p : Precedence) (ps : List Precedence) (d : ℕ) (a : tree.Expr) (ts : List Tok) → climbed (p ∷ ps) d a ts ≡ (climbed ps d a ts >>= λ b. links p d b.0 b.1)
+pub climbed_some : (ps : List Precedence) (d : ℕ) (a : tree.Expr) (ts : List Tok) → 1 ≤ length ps → climbed ps d a ts ≡ (climbed (take (length ps - 1) (drop 1 ps)) d a ts >>= λ b. links (get_or ps 0 precedence.Power) d b.0 b.1)
 unfolding climbed
-climbed_some p ps d a ts = refl
+climbed_some ps d a ts some = rw (take_rest ps 1) (go ps some)
+  where
+    go : (ps : List Precedence) → 1 ≤ length ps → climbed ps d a ts ≡ (climbed (drop 1 ps) d a ts >>= λ b. links (get_or ps 0 precedence.Power) d b.0 b.1)
+    go [] some = absurd (omega arith)
+    go (p ∷ ps) some = refl
 
 -- what an operator of a precedence binds, with one token of look-ahead
 fine_level : (p : Precedence) → fine Production Value heads need (Chain depth (joined p) (levels unary (stronger p)) (link p)) ≡ true
@@ -163,3 +171,38 @@ expr_over_is operand d ts = refl
 pub expr_is : (d : ℕ) (ts : List Tok) → reads d expr ts ≡ (reads d (levels unary precedences) ts >>= λ c. choices d c.0 c.1)
 unfolding expr
 expr_is d ts = expr_over_is unary d ts
+
+pub choices_none : (d : ℕ) (c : tree.Expr) (ts : List Tok) → mem (next ts).code (code k.Question ∷ []) ≡ false → choices d c ts ≡ Ok (c, ts)
+unfolding choices
+choices_none d c ts h = rw h refl
+
+pub choices_deep : (d : ℕ) (c : tree.Expr) (ts : List Tok) → mem (next ts).code (code k.Question ∷ []) ≡ true → d ≤ depth c → choices d c ts ≡ Err (TooDeep ts)
+unfolding choices
+choices_deep d c ts h low = rw (h, and_left (reach (suc (depth c)) d) (reach 1 d) (reach_short (depth c) d low)) refl
+
+-- a choice, part by part
+pub choices_on : (d e : ℕ) (c : tree.Expr) (ts : List Tok) → e + 1 ≡ d → depth c < d → mem (next ts).code (code k.Question ∷ []) ≡ true → choices d c ts ≡ (one_of (code k.Question ∷ []) ts >>= λ q. reads e expr q.1 >>= λ y. one_of (code k.Colon ∷ []) y.1 >>= λ m. reads e expr m.1 >>= λ n. Ok (tree.Choose c y.0 n.0, n.1))
+unfolding choices
+choices_on d e c ts is low h = rw (h, room (depth c) d low) (go (one_of (code k.Question ∷ []) ts))
+  where
+    last : (y : tree.Expr) (o : Out tree.Expr) → made (λ (p : tree.Expr × tree.Expr). tree.Choose c p.0 p.1) (beside y o) ≡ (o >>= λ n. Ok (tree.Choose c y n.0, n.1))
+    last y (Ok n) = refl
+    last y (Err m) = refl
+
+    colon : (t : Tok) (y : tree.Expr) (o : Out Tok) → made (λ (p : tree.Expr × tree.Expr). tree.Choose c p.0 p.1) (row (made (λ p. p.1) (beside t (made (λ p. p.0) (beside y o)))) (λ r. reads d (Inner Expression) r)) ≡ (o >>= λ m. reads e expr m.1 >>= λ n. Ok (tree.Choose c y n.0, n.1))
+    colon t y (Ok m) = rw (inner_at d e is Expression m.1) (last y (reads e expr m.1))
+    colon t y (Err m) = refl
+
+    branch : (t : Tok) (o : Out tree.Expr) → made (λ (p : tree.Expr × tree.Expr). tree.Choose c p.0 p.1) (row (made (λ p. p.1) (beside t (made (λ p. p.0) (row o (λ s. one_of (code k.Colon ∷ []) s))))) (λ r. reads d (Inner Expression) r)) ≡ (o >>= λ y. one_of (code k.Colon ∷ []) y.1 >>= λ m. reads e expr m.1 >>= λ n. Ok (tree.Choose c y.0 n.0, n.1))
+    branch t (Ok y) = colon t y.0 (one_of (code k.Colon ∷ []) y.1)
+    branch t (Err m) = refl
+
+    go : (o : Out Tok) → made (λ (p : tree.Expr × tree.Expr). tree.Choose c p.0 p.1) (row (made (λ p. p.1) (row o (λ r. made (λ p. p.0) (row (reads d (Inner Expression) r) (λ s. one_of (code k.Colon ∷ []) s))))) (λ r. reads d (Inner Expression) r)) ≡ (o >>= λ q. reads e expr q.1 >>= λ y. one_of (code k.Colon ∷ []) y.1 >>= λ m. reads e expr m.1 >>= λ n. Ok (tree.Choose c y.0 n.0, n.1))
+    go (Ok q) = rw (inner_at d e is Expression q.1) (branch q.0 (reads e expr q.1))
+    go (Err m) = refl
+
+-- ---- an operator before an operand
+
+pub inner_unary : (d e : ℕ) (ts : List Tok) → e + 1 ≡ d → readers Production Value heads need table d (Level precedence.Power) ts ≡ reads e unary ts
+unfolding levels
+inner_unary d e ts is = inner_at d e is (Level precedence.Power) ts

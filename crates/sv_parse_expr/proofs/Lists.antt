@@ -79,6 +79,9 @@ pub inner_exprs_are : (d e : ℕ) → e + 1 ≡ d → (ts : List Tok) → reads 
 unfolding comma_expr inner_exprs
 inner_exprs_are d e is ts = inner_list Expression d e is refl ts
 
+pub inner_exprs_of : (e : ℕ) (ts : List Tok) → reads (e + 1) inner_exprs ts ≡ reads e (list expr_code) ts
+inner_exprs_of e ts = inner_exprs_are (e + 1) e refl ts
+
 -- ---- depths of lists that grow at their end
 
 larger_max : (a b : ℕ) → larger a b ≡ max a b

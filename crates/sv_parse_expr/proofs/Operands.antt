@@ -13,7 +13,7 @@ use Rattle.sv_tree.specs.ExprGrammar.{closed, expr, maybe_actuals, suffixes}
 use Rattle.sv_parse.specs.Outcome.{Fails}
 use Rattle.sv_parse.specs.declared.tokens.ReadError.{ReadError}
 use Rattle.sv_parse.specs.declared.tokens.ReadError.TheVariants as errors
-use Rattle.sv_parse_expr.specs.Fronts.{Follows, Remains, bracketed, called}
+use Rattle.sv_parse_expr.specs.Fronts.{Fits, Follows, Remains, bracketed, called}
 use Rattle.sv_parse_expr.specs.declared.fronts.Front.{Front}
 use Rattle.sv_parse_expr.specs.declared.fronts.Front.TheVariants as front
 use Rattle.sv_parse_expr.specs.declared.fronts.Opening.{Opening}
@@ -40,9 +40,12 @@ closed_is d inner is ts = rw (inner_at d inner is Expression ts) (go (reads inne
     go (Ok x) = ended x.0 (one_of (code k.RightParenthesis ∷ []) x.1)
     go (Err m) = refl
 
-module _ (d : ℕ) (f : Front) (o : Opening) (inner : ℕ) (ts : List Tok) (all : Out tree.Expr) (is : f ≡ front.Bracket o inner) (left : Remains d f ts all) (fits : inner + 1 ≡ d) where
+module _ (d : ℕ) (f : Front) (o : Opening) (inner : ℕ) (ts : List Tok) (all : Out tree.Expr) (is : f ≡ front.Bracket o inner) (left : Remains d f ts all) (fits : Fits d f) where
+  deeper : inner + 1 ≡ d
+  deeper = (subst (Fits d) is fits).0
+
   bracket_follows : Follows (bracketed o) (reads inner expr ts >>= λ x. one_of (code k.RightParenthesis ∷ []) x.1 >>= λ t. Ok (x.0, t.1)) all
-  bracket_follows = subst (λ p. Follows (bracketed o) p all) (closed_is d inner fits ts) (subst (λ g. Remains d g ts all) is left)
+  bracket_follows = subst (λ p. Follows (bracketed o) p all) (closed_is d inner deeper ts) (subst (λ g. Remains d g ts all) is left)
 
   pub bracket_fails : (e : ReadError) → Fails e (reads inner expr ts) → Fails e all
   bracket_fails e g = follows_fails (bracketed o) (reads inner expr ts >>= λ x. one_of (code k.RightParenthesis ∷ []) x.1 >>= λ t. Ok (x.0, t.1)) all e bracket_follows (fails_after e (reads inner expr ts) (λ x. one_of (code k.RightParenthesis ∷ []) x.1 >>= λ t. Ok (x.0, t.1)) g)

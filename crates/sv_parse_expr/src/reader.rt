@@ -251,7 +251,7 @@ pub fn measured_suffixes<'a>(
 
 /// `"{" list(expr) "}"` in braces, for whose inside this budget is left.
 #[cycle(expr)]
-#[tactic(auto, using(crate::proofs::Lists::exprs_are_listed, crate::proofs::Lists::inner_exprs_are), unfolding(sv_tree::specs::ExprGrammar::repeated))]
+#[tactic(auto, unfolding(sv_tree::specs::ExprGrammar::repeated))]
 fn repeated<'a>(alloc: Global, tokens: &'a [Token], inner: Budget) -> Read<'a, Measured<Bracketed>>
     ensures reads { Reads (measured bracketed) (inner + 1) grammar.repeated tokens.now result }
     ensures depth { IfOk result (λ x. FittingBracketed inner x.0) }
@@ -271,7 +271,7 @@ fn repeated<'a>(alloc: Global, tokens: &'a [Token], inner: Budget) -> Read<'a, M
 
 /// A concatenation or a replication, for whose inside this budget is left.
 #[cycle(expr)]
-#[tactic(auto, using(crate::proofs::Lists::exprs_are_listed), unfolding(sv_tree::specs::ExprGrammar::braces))]
+#[tactic(auto, unfolding(sv_tree::specs::ExprGrammar::braces))]
 fn braces<'a>(alloc: Global, tokens: &'a [Token], inner: Budget) -> Read<'a, Measured<Expr>>
     requires { inner < most_depth }
     ensures reads { Reads (measured view.expr) (inner + 1) grammar.braces tokens.now result }
@@ -337,7 +337,7 @@ pub fn prim<'a>(alloc: Global, tokens: &'a [Token], budget: Budget) -> Read<'a, 
 
 /// An operand, with operators before it or without.
 #[cycle(expr)]
-#[tactic(auto, using(crate::proofs::Budgets::inner_at, crate::proofs::Budgets::reach_one, crate::proofs::Known::prim_low), unfolding(sv_tree::specs::ExprGrammar::unary, sv_tree::specs::ExprGrammar::prefixed, sv_tree::specs::ExprGrammar::levels))]
+#[tactic(auto, using(crate::proofs::Links::inner_unary, crate::proofs::Budgets::reach_one, crate::proofs::Known::prim_low), unfolding(sv_tree::specs::ExprGrammar::unary, sv_tree::specs::ExprGrammar::prefixed))]
 fn unary<'a>(alloc: Global, tokens: &'a [Token], budget: Budget) -> Read<'a, Measured<Expr>>
     ensures reads { Reads (measured view.expr) budget grammar.unary tokens.now result }
     ensures depth { IfOk result (λ x. Fitting budget x.0) }
@@ -364,7 +364,7 @@ fn unary<'a>(alloc: Global, tokens: &'a [Token], budget: Budget) -> Read<'a, Mea
 
 /// The operators of precedences, the weakest first, after an operand, with their right operands.
 #[cycle(expr)]
-#[tactic(auto, using(crate::proofs::Links::climbed_none, crate::proofs::Links::climbed_some, crate::proofs::Links::links_stop, crate::proofs::Links::links_low, crate::proofs::Links::links_none, crate::proofs::Links::links_bad, crate::proofs::Links::links_on))]
+#[tactic(auto, using(crate::proofs::Links::links_stop, crate::proofs::Links::links_low, crate::proofs::Links::links_none))]
 pub fn operators<'a>(
     alloc: Global,
     operand: Measured<Expr>,
@@ -411,7 +411,7 @@ fn level<'a>(
 
 /// What may follow a condition.
 #[cycle(expr)]
-#[tactic(auto, using(crate::proofs::Budgets::inner_at, crate::proofs::Budgets::reach_more, crate::proofs::Budgets::reach_short, crate::proofs::Budgets::reach_one), unfolding(crate::specs::Chains::choices))]
+#[tactic(auto, using(crate::proofs::Links::choices_none, crate::proofs::Links::choices_deep))]
 pub fn choose<'a>(
     alloc: Global,
     condition: Measured<Expr>,
