@@ -1,5 +1,5 @@
 -- What the code answers is exact, since what reading gives is.
-use Rattle.std.proofs.Common.{◌≡◌, ℕ, ◌+◌, ◌-◌, ◌≤◌, true, List, length, drop, Ok, Err, refl, sym, ap, subst, ◌∙◌, arith}
+use Rattle.std.proofs.Common.{◌≡◌, ℕ, ◌+◌, ◌-◌, ◌≤◌, true, List, [], length, drop, Ok, Err, refl, sym, ap, subst, ◌∙◌, arith}
 use Rattle.std.proofs.Math.Seq.{drop-append_seam}
 use Rattle.std.proofs.lemmas.List.{drop-drop, drop-map, length-append, length-drop}
 use Rattle.sv_grammar.specs.Tokens.{Tok}
@@ -80,6 +80,9 @@ module _ {Y : Type 0} (c : C Y) (passes : fine Production Value heads need c ≡
   tree_of y (Ok x) = x.0
   tree_of y (Err m) = y
 
+  abbrev given : Y × List Tok → Out Y
+  given x = Ok x
+
   abbrev rest_of : Out Y → List Tok
   rest_of (Ok x) = x.1
   rest_of (Err m) = []
@@ -87,7 +90,7 @@ module _ {Y : Type 0} (c : C Y) (passes : fine Production Value heads need c ≡
   -- it is the tree, up to its end
   pub code_only : (rest : List Token) (x y : Y) (end : ℕ) → reads d c (toks (drop from tokens)) ≡ Ok (x, toks rest) → ReadsTo (texts_of c) d (toks tokens) from y end → (x ≡ y) × (length tokens - length rest ≡ end)
   code_only rest x y end e r =
-      let both : Result.Ok (x, toks rest) ≡ Ok (y, drop end (toks tokens)) = sym e ∙ spelled y end r in
+      let both : given (x, toks rest) ≡ given (y, drop end (toks tokens)) = sym e ∙ spelled y end r in
       let left : length (toks rest) ≡ length (toks tokens) - end = ap (λ (o : Out Y). length (rest_of o)) both ∙ length-drop end (toks tokens) in
       let within : end ≤ length (toks tokens) = r.within in
       let all : length (toks tokens) ≡ length tokens = toks_length tokens in

@@ -28,7 +28,7 @@ follows_fails f part all (errors.TooDeep rest) h g = h.0 (TooDeep (toks rest.now
 follows_fails f part all (errors.Unexpected rest) h g = h.0 (Unexpected (toks rest.now)) g
 
 -- an expression and its bracket
-closed_is : (d inner : ℕ) → inner + 1 ≡ d → (ts : List Tok) → reads d closed ts ≡ (reads inner expr ts >>= λ x. one_of (code k.RightParenthesis ∷ []) x.1 >>= λ t. Ok (x.0, t.1))
+pub closed_is : (d inner : ℕ) → inner + 1 ≡ d → (ts : List Tok) → reads d closed ts ≡ (reads inner expr ts >>= λ x. one_of (code k.RightParenthesis ∷ []) x.1 >>= λ t. Ok (x.0, t.1))
 unfolding closed
 closed_is d inner is ts = rw (inner_at d inner is Expression ts) (go (reads inner expr ts))
   where

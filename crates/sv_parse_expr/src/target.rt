@@ -56,6 +56,7 @@ fn comma_target<'a>(alloc: Global, tokens: &'a [Token], budget: Budget) -> Read<
 
 /// `list(lval)`
 #[cycle(target)]
+#[tactic(auto, using(crate::proofs::TargetLaws::list_is, crate::proofs::TargetLaws::commas_stop))]
 fn target_list<'a>(alloc: Global, tokens: &'a [Token], budget: Budget) -> Read<'a, Vec<Lval>>
     ensures { Reads (seen view.lval) budget (list_of grammar.lval) tokens.now result }
 {
