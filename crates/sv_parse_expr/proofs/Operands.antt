@@ -4,12 +4,14 @@ use Rattle.sv_grammar.specs.Tokens.{Tok}
 use Rattle.sv_grammar.specs.Language.{Miss, TooDeep, Unexpected, Out}
 use Rattle.sv_grammar.specs.Reading.{◌>>=◌, one_of}
 use Rattle.sv_tree.specs.declared.kind.Kind.TheVariants as k
+use Rattle.sv_grammar.specs.Code.Code.{Map}
+use Rattle.sv_tree.specs.declared.expr.CastType.{CastType}
 use Rattle.sv_tree.specs.declared.expr.Root.{Root}
 use Rattle.sv_tree.specs.Codes.{code, toks}
 use Rattle.sv_tree.specs.Expr as tree
 use Rattle.sv_tree.specs.Forms.{Expression}
 use Rattle.sv_tree.specs.Grammar.{reads}
-use Rattle.sv_tree.specs.ExprGrammar.{closed, expr, maybe_actuals, suffixes}
+use Rattle.sv_tree.specs.ExprGrammar.{cast, closed, expr, maybe_actuals, suffixes}
 use Rattle.sv_parse.specs.Outcome.{Fails}
 use Rattle.sv_parse.specs.declared.tokens.ReadError.{ReadError}
 use Rattle.sv_parse.specs.declared.tokens.ReadError.TheVariants as errors
@@ -28,7 +30,7 @@ follows_fails f part all (errors.TooDeep rest) h g = h.0 (TooDeep (toks rest.now
 follows_fails f part all (errors.Unexpected rest) h g = h.0 (Unexpected (toks rest.now)) g
 
 -- an expression and its bracket
-pub closed_is : (d inner : ℕ) → inner + 1 ≡ d → (ts : List Tok) → reads d closed ts ≡ (reads inner expr ts >>= λ x. one_of (code k.RightParenthesis ∷ []) x.1 >>= λ t. Ok (x.0, t.1))
+closed_is : (d inner : ℕ) → inner + 1 ≡ d → (ts : List Tok) → reads d closed ts ≡ (reads inner expr ts >>= λ x. one_of (code k.RightParenthesis ∷ []) x.1 >>= λ t. Ok (x.0, t.1))
 unfolding closed
 closed_is d inner is ts = rw (inner_at d inner is Expression ts) (go (reads inner expr ts))
   where
@@ -39,6 +41,27 @@ closed_is d inner is ts = rw (inner_at d inner is Expression ts) (go (reads inne
     go : (o : Out tree.Expr) → made (λ p. p.0) (row o (λ r. one_of (code k.RightParenthesis ∷ []) r)) ≡ (o >>= λ x. one_of (code k.RightParenthesis ∷ []) x.1 >>= λ t. Ok (x.0, t.1))
     go (Ok x) = ended x.0 (one_of (code k.RightParenthesis ∷ []) x.1)
     go (Err m) = refl
+
+-- a cast, after its type
+pub cast_is : (to : CastType) (d inner : ℕ) → inner + 1 ≡ d → (ts : List Tok) → reads d (Map (λ e. tree.Cast to e) cast) ts ≡ (one_of (code k.Apostrophe ∷ []) ts >>= λ a. one_of (code k.LeftParenthesis ∷ []) a.1 >>= λ b. reads inner expr b.1 >>= λ x. one_of (code k.RightParenthesis ∷ []) x.1 >>= λ t. Ok (tree.Cast to x.0, t.1))
+unfolding cast
+cast_is to d inner is ts = quote_ (one_of (code k.Apostrophe ∷ []) ts)
+  where
+    close : (a b : Tok) (e : tree.Expr) (o : Out Tok) → made (λ (e : tree.Expr). tree.Cast to e) (made (λ (p : Tok × tree.Expr). p.1) (beside a (made (λ (p : Tok × tree.Expr). p.1) (beside b (o >>= λ t. Ok (e, t.1)))))) ≡ (o >>= λ t. Ok (tree.Cast to e, t.1))
+    close a b e (Ok t) = refl
+    close a b e (Err m) = refl
+
+    inside : (a b : Tok) (o : Out tree.Expr) → made (λ (e : tree.Expr). tree.Cast to e) (made (λ (p : Tok × tree.Expr). p.1) (beside a (made (λ (p : Tok × tree.Expr). p.1) (beside b (o >>= λ x. one_of (code k.RightParenthesis ∷ []) x.1 >>= λ t. Ok (x.0, t.1)))))) ≡ (o >>= λ x. one_of (code k.RightParenthesis ∷ []) x.1 >>= λ t. Ok (tree.Cast to x.0, t.1))
+    inside a b (Ok x) = close a b x.0 (one_of (code k.RightParenthesis ∷ []) x.1)
+    inside a b (Err m) = refl
+
+    open_ : (a : Tok) (o : Out Tok) → made (λ (e : tree.Expr). tree.Cast to e) (made (λ (p : Tok × tree.Expr). p.1) (beside a (made (λ (p : Tok × tree.Expr). p.1) (row o (λ r. reads d closed r))))) ≡ (o >>= λ b. reads inner expr b.1 >>= λ x. one_of (code k.RightParenthesis ∷ []) x.1 >>= λ t. Ok (tree.Cast to x.0, t.1))
+    open_ a (Ok b) = rw (closed_is d inner is b.1) (inside a b.0 (reads inner expr b.1))
+    open_ a (Err m) = refl
+
+    quote_ : (o : Out Tok) → made (λ (e : tree.Expr). tree.Cast to e) (made (λ (p : Tok × tree.Expr). p.1) (row o (λ q. made (λ (p : Tok × tree.Expr). p.1) (row (one_of (code k.LeftParenthesis ∷ []) q) (λ r. reads d closed r))))) ≡ (o >>= λ a. one_of (code k.LeftParenthesis ∷ []) a.1 >>= λ b. reads inner expr b.1 >>= λ x. one_of (code k.RightParenthesis ∷ []) x.1 >>= λ t. Ok (tree.Cast to x.0, t.1))
+    quote_ (Ok a) = open_ a.0 (one_of (code k.LeftParenthesis ∷ []) a.1)
+    quote_ (Err m) = refl
 
 module _ (d : ℕ) (f : Front) (o : Opening) (inner : ℕ) (ts : List Tok) (all : Out tree.Expr) (is : f ≡ front.Bracket o inner) (left : Remains d f ts all) (fits : Fits d f) where
   deeper : inner + 1 ≡ d

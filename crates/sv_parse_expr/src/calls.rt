@@ -1,8 +1,4 @@
 // Calls (IEEE 1800-2017, A.8.2).
-ghost use Rattle.std.specs.Prelude.{◌≡◌, ◌∷◌, [], true};
-ghost use Rattle.sv_grammar.specs.Tokens.{mem, next};
-ghost use Rattle.sv_tree.specs.declared.kind.Kind.TheVariants as k;
-ghost use Rattle.sv_tree.specs.Codes.{code, toks};
 ghost use Rattle.sv_tree.specs.ExprGrammar as grammar;
 ghost use Rattle.sv_tree.specs.View as view;
 ghost use Rattle.sv_parse.specs.Outcome.{Reads};
@@ -33,23 +29,14 @@ pub fn system_call<'a>(alloc: Global, tokens: &'a [Token], budget: Budget) -> Re
     Ok((Expr::System(name, actuals), rest))
 }
 
-/// A name with what follows it, as an expression.
-#[tactic(auto, using(crate::proofs::TargetLaws::call_named))]
-fn named_call<'a>(alloc: Global, tokens: &'a [Token], budget: Budget) -> Read<'a, Expr>
-    requires { mem (next (toks tokens.now)).code (code k.Name ∷ []) ≡ true }
-    ensures { Reads view.expr budget grammar.call tokens.now result }
-{
-    let (post, rest) = named_post(alloc, tokens, budget)?;
-    Ok((post_of(post.root, post.suffixes), rest))
-}
-
 /// `call`: a name with what follows it, a system call, or a call of the constructor of the base class.
-#[tactic(auto, using(crate::proofs::TargetLaws::call_this, crate::proofs::TargetLaws::call_super, crate::proofs::TargetLaws::call_system, crate::proofs::TargetLaws::call_none))]
+#[tactic(auto, using(crate::proofs::TargetLaws::call_named, crate::proofs::TargetLaws::call_this, crate::proofs::TargetLaws::call_super, crate::proofs::TargetLaws::call_system, crate::proofs::TargetLaws::call_none))]
 pub fn call<'a>(alloc: Global, tokens: &'a [Token], budget: Budget) -> Read<'a, Expr>
     ensures { Reads view.expr budget grammar.call tokens.now result }
 {
     if is_next(tokens, Kind::Name) {
-        return named_call(alloc, tokens, budget);
+        let (post, rest) = named_post(alloc, tokens, budget)?;
+        return Ok((post_of(post.root, post.suffixes), rest));
     }
     if is_next(tokens, Kind::SystemName) {
         return system_call(alloc, tokens, budget);

@@ -41,7 +41,7 @@ pub fn cast_word(tokens: &[Token]) -> Read<CastType>
 }
 
 /// `"'" "(" expr ")"` after the type that is cast to
-#[tactic(auto, using(crate::proofs::Operands::closed_is), unfolding(sv_tree::specs::ExprGrammar::cast))]
+#[tactic(auto, unfolding(sv_tree::specs::ExprGrammar::cast))]
 fn cast_operand<'a>(
     alloc: Global,
     to: CastType,
