@@ -28,9 +28,9 @@ use Rattle.sv_flat.specs.Statements.Events.{frozen, frozen_watches}
 use Rattle.sv_flat.specs.Built.{IsBuiltExpr, IsBuiltBase, IsBuiltTarget, IsBuiltWatch, IsBuiltObject, IsBuiltType, IsWidth}
 use Rattle.sv_flat.specs.Short.{known_value, value_now, values_now, object_of}
 use Rattle.std.proofs.lemmas.Bool.Decides.{nat_tests}
-use Rattle.sv_value.specs.declared.word.TheConstants.{WIDEST}
 use Rattle.sv_value.specs.declared.val.Plain.TheVariants as plain
 use Rattle.sv_flat.specs.declared.object.DataType.TheVariants as type
+use Rattle.sv_value.specs.Vector.{widest}
 
 -- a value and no fault
 pub record Known (x : Valued) : Type 0 where
@@ -122,7 +122,7 @@ frozen_are os (w ∷ ws) h v = absurd h.0
 pub max_width : (m n : ℕ) → IsWidth m → IsWidth n → IsWidth (max m n)
 max_width m n h k = (grind (arith, nat_tests), grind (arith, nat_tests))
 
-widened : (m n : ℕ) → m ≤ WIDEST → IsWidth n → IsWidth (max m n)
+widened : (m n : ℕ) → m ≤ widest → IsWidth n → IsWidth (max m n)
 widened m n h k = (grind (arith, nat_tests), grind (arith, nat_tests))
 
 -- the type of an object that is built is an integral one

@@ -21,8 +21,7 @@ use Rattle.sv_flat.proofs.StatementSound.{scheduled_sound, strobe_sound}
 use Rattle.sv_kernel.specs.declared.frames.Frame.{Frame}
 use Rattle.sv_kernel.specs.declared.machine.Machine.{Machine}
 use Rattle.sv_kernel.specs.declared.machine.Kept.{Kept}
-use Rattle.sv_kernel.specs.Frames.{all_left, stmts, stmts_left, stmt_at}
-use Rattle.sv_kernel.specs.Expressions.{store_of}
+use Rattle.sv_kernel.specs.Frames.{stmts, stmts_left, stmt_at}
 use Rattle.sv_kernel.specs.Machine.{Tracks}
 use Rattle.sv_kernel.specs.Prints.{strobe_at}
 use Rattle.sv_kernel.specs.Statements.{Runs}

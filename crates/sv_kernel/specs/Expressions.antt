@@ -26,6 +26,10 @@ value_with (Some h) o x = if h.object.0 == o.0 then h.value else x
 pub record Sees (v : View) (vs : List Vector) (h : Option Change) : Type 0 where
   pub object : (o : ObjId) (x : Vector) → slice_get vs o.0 ≡ Some x → v.object o 0 ≡ val.Bits (value_with h o x)
 
+-- whatever sees these values, and then the same with the change
+abbrev pub AtChange : List Vector → Option Change → (View → View → Type 0) → Type 0
+AtChange vs h holds = (old new : View) → Sees old vs None → Sees new vs h → holds old new
+
 -- a vector in a context
 abbrev pub within : Context → Vector → Vector
 within c x = in_context c.width c.signed x

@@ -1,7 +1,6 @@
 -- What is printed, as records and as bytes (IEEE 1800-2017, 21.2.1).
-use Rattle.std.specs.Prelude.{ℕ, List, [], ◌∷◌, ◌+◌, ◌++◌, map}
+use Rattle.std.specs.Prelude.{ℕ, List, [], ◌∷◌, ◌++◌, map}
 use Rattle.sv_flat.specs.Config.{Record}
-use Rattle.sv_flat.specs.Steps.{other}
 use Rattle.sv_kernel.specs.declared.log.Line.{Line}
 
 -- the record of a line

@@ -1,5 +1,5 @@
 -- What the code of a statement owes: the machine keeps what the definitions leave, and the lines are the records that they add.
-use Rattle.std.specs.Prelude.{◌≡◌, ◌++◌, List, Some, None, IsNone, slice_set}
+use Rattle.std.specs.Prelude.{◌≡◌, ◌++◌, List, Some, None, IsNone, slice_set, ℕ}
 use Rattle.std.specs.List.{AllByRecursion}
 use Rattle.sv_value.specs.declared.number.ProcessId.{ProcessId}
 use Rattle.sv_value.specs.declared.schedule.Side.{Side}
@@ -13,6 +13,10 @@ use Rattle.sv_kernel.specs.Frames.{stmts, stmts_left}
 use Rattle.sv_kernel.specs.Machine.{Stands, Tracks}
 use Rattle.sv_kernel.specs.Log.{records_of}
 use Rattle.sv_kernel.specs.Waits.{awaited_by}
+use Rattle.sv_value.specs.declared.place.Place.{Place}
+use Rattle.sv_flat.specs.declared.stmt.Lvalue.{Lvalue}
+use Rattle.sv_flat.specs.Expr.{Expr}
+use Rattle.sv_flat.specs.Short.{assigned, updated_later, update_job, object_of, target_value}
 
 -- a process of a side runs, and a machine stands for it with the statement taken off that is executed
 pub record Runs (d : Parts) (m : Machine) (p : ProcessId) (side : Side) (c : Config) (u : ProcessState) (rest : List Todo) : Type 0 where
@@ -30,6 +34,14 @@ pub record Runs (d : Parts) (m : Machine) (p : ProcessId) (side : Side) (c : Con
 -- a configuration, from the one before, the process and what it has left
 abbrev pub Leaves : Type 0
 Leaves = Config → ProcessState → List Todo → Config
+
+-- what an assignment leaves
+abbrev pub assigned_to : Parts → Place → ProcessId → Lvalue → Expr → Leaves
+assigned_to d at p l e c u rest = assigned d at p u (object_of l.base) (target_value d l e c) rest c
+
+-- what a nonblocking one leaves, whose update comes so many ticks later
+abbrev pub updated_after : Parts → Place → ProcessId → ℕ → Lvalue → Expr → Leaves
+updated_after d at p n l e c u rest = updated_later at p u n (update_job (object_of l.base) (target_value d l e c)) rest c
 
 -- whatever the machine stood for, it stands for what is left then
 abbrev pub Does : Parts → (old new : Machine) → ProcessId → Side → Leaves → Type 0

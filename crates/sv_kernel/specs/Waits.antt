@@ -1,5 +1,5 @@
 -- What processes wait for: positions of event controls, and moments (IEEE 1800-2017, 9.4.1 and 9.4.2).
-use Rattle.std.specs.Prelude.{◌≡◌, ℕ, zero, suc, ◌+◌, ◌≤◌, Bool, true, false, List, [], ◌∷◌, Option, None, Some, ◌^◌, ◌++◌, nat_lt, if◌then◌else◌}
+use Rattle.std.specs.Prelude.{◌≡◌, ℕ, zero, suc, ◌+◌, ◌≤◌, Bool, false, List, [], ◌∷◌, Option, None, Some, ◌^◌, ◌++◌, nat_lt, if◌then◌else◌}
 use Rattle.sv_value.specs.declared.number.ProcessId.{ProcessId}
 use Rattle.sv_value.specs.declared.schedule.Side.{Side}
 use Rattle.sv_value.specs.Regions.{ready_in, front_of, idle_of}

@@ -12,7 +12,7 @@ use Rattle.sv_kernel.specs.Frames.{stmt_at}
 use Rattle.sv_kernel.specs.declared.expressions.Change.{Change}
 use Rattle.sv_kernel.specs.Expressions.{Sees}
 use Rattle.sv_flat.specs.Sound.{side_of_process, weight_of_all}
-use Rattle.sv_kernel.specs.Waits.{watches_in, fires}
+use Rattle.sv_kernel.specs.Waits.{watches_in}
 
 -- whether a change fires what the process at an event control waits for
 abbrev pub woken_at : Parts → (old new : View) → Option Frame → Bool

@@ -11,11 +11,11 @@ ghost use Rattle.sv_flat.specs.Built.{IsBuilt, IsBuiltForm, IsBuiltExpr, IsBuilt
 ghost use Rattle.sv_flat.specs.Sound.{weight_of_all, IsSound, IsPlainJob};
 ghost use Rattle.sv_flat.specs.Short.{short, gone_on, assigned, target_value, object_of, text_now, printed_now, value_now, update_job, updated_later};
 ghost use Rattle.sv_kernel.specs.Frames.{all_left, list_at, is_more};
-ghost use Rattle.sv_kernel.specs.Statements.{Does};
+ghost use Rattle.sv_kernel.specs.Statements.{Does, assigned_to, updated_after};
 ghost use Rattle.sv_kernel.specs.Expressions.{store_of};
 ghost use Rattle.sv_kernel.specs.Wakes.{waits_weight};
 ghost use Rattle.sv_kernel.specs.Waits.{IsTicks};
-ghost use Rattle.sv_kernel.specs.Machine.{Stands, MayRun, SameMoment, EachInOnePlace};
+ghost use Rattle.sv_kernel.specs.Machine.{Stands, MayRun, SameMoment, EachInOnePlace, Carries, SameButValues};
 ghost use Rattle.sv_flat.specs.declared.stmt.Stmt.{Stmt};
 ghost use Rattle.sv_flat.specs.Effects.{write_occurred};
 ghost use Rattle.sv_flat.specs.Steps.{job_done};
@@ -46,7 +46,7 @@ pub fn assign(
     requires target { IsBuiltTarget design.now.objects target.now }
     requires expr { IsBuiltExpr design.now.objects expr.now }
     ensures ok { OnOk result ((side : Side) (at : Place) → Does design.now machine.old machine.new process side
-        (λ c u rest. assigned design.now at process u (object_of target.now.base) (target_value design.now target.now expr.now c) rest c)) }
+        (assigned_to design.now at process target.now expr.now)) }
     ensures frame { SameMoment machine.old machine.new }
 {
     let object = object_of(&target.base);
@@ -72,7 +72,7 @@ pub fn update_later(
     requires target { IsBuiltTarget design.now.objects target.now }
     requires expr { IsBuiltExpr design.now.objects expr.now }
     ensures ok { OnOk result ((n : ℕ) → IsTicks ticks n → Does design.now machine.old machine.new process side
-        (λ c u rest. updated_later at process u n (update_job (object_of target.now.base) (target_value design.now target.now expr.now c)) rest c)) }
+        (updated_after design.now at process n target.now expr.now)) }
     ensures frame { SameMoment machine.old machine.new }
 {
     let bits = value_for(design, target, expr, &machine.values);
@@ -126,10 +126,8 @@ pub fn do_job(machine: &mut Machine, design: &Design, job: &Job) -> Result<(), N
     requires each { length machine.old.values.items ≡ length design.now.objects }
     requires count { length machine.old.waits.items ≡ length design.now.processes }
     requires weights { EachInOnePlace design.now machine.old.regions machine.old.waits.items }
-    ensures ok { OnOk result ((c : Config) (rests : List (List Stmt)) → IsSound design.now c → Stands design.now machine.old c rests
-        → Stands design.now machine.new (job_done design.now job.now c) rests) }
-    ensures same { OnOk result (machine.new
-        ≡ record machine.old { values = machine.new.values; waits = machine.new.waits; regions = machine.new.regions }) }
+    ensures ok { OnOk result (Carries design.now machine.old machine.new (job_done design.now job.now)) }
+    ensures same { OnOk result (SameButValues machine.old machine.new) }
     ensures frame { SameMoment machine.old machine.new }
 {
     match job {
@@ -156,10 +154,9 @@ pub fn write(
     requires each { length machine.old.values.items ≡ length design.now.objects }
     requires count { length machine.old.waits.items ≡ length design.now.processes }
     requires weights { EachInOnePlace design.now machine.old.regions machine.old.waits.items }
-    ensures ok { OnOk result ((at : Place) (c : Config) (rests : List (List Stmt)) → IsSound design.now c → Stands design.now machine.old c rests
-        → Stands design.now machine.new (write_occurred design.now at (Cell object 0 None) (val.Bits value) c) rests) }
-    ensures same { OnOk result (machine.new
-        ≡ record machine.old { values = machine.new.values; waits = machine.new.waits; regions = machine.new.regions }) }
+    ensures ok { OnOk result ((at : Place) → Carries design.now machine.old machine.new
+        (write_occurred design.now at (Cell object 0 None) (val.Bits value))) }
+    ensures same { OnOk result (SameButValues machine.old machine.new) }
     ensures frame { SameMoment machine.old machine.new }
 {
     let change = Some(Change { object, value });
@@ -180,7 +177,8 @@ pub fn value_for(design: &Design, target: &Lvalue, expr: &Expr, values: &[Bits])
     requires target { IsBuiltTarget design.now.objects target.now }
     requires expr { IsBuiltExpr design.now.objects expr.now }
     requires each { length values.now ≡ length design.now.objects }
-    ensures { (c : Config) → store_of values.now ≡ c.store → target_value design.now target.now expr.now c ≡ val.Bits result }
+    ensures { (c : Config) → store_of values.now ≡ c.store
+        → target_value design.now target.now expr.now c ≡ val.Bits result }
 {
     let bits = value(design, expr, values, &None);
     match target.ty {

@@ -1,4 +1,4 @@
-// Runs one statement of the running process: branches, loops and blocks, and `$finish`; the other forms have rooms of their own.
+// Runs a statement of the running process: branches, loops, blocks and `$finish`. Other forms have rooms of their own.
 ghost use Rattle.std.specs.Prelude.{◌≡◌, ◌≢◌, ◌<◌, ◌≤◌, ◌++◌, ◌+◌, ◌^◌, ℕ, OnOk, IfOk, IsNone, Some, length, sum_by, ◌∷◌, [], List, IfSome, None, slice_get, slice_set, if◌then◌else◌, true};
 ghost use Rattle.std.specs.List.{Contains, AllByRecursion};
 ghost use Rattle.sv_value.specs.Regions.{standing};
@@ -11,7 +11,7 @@ ghost use Rattle.sv_flat.specs.Eval.{vector_in};
 ghost use Rattle.sv_value.specs.Operators.{is_true};
 ghost use Rattle.sv_flat.specs.Sound.{IsSound, weight_of_all, IsPlainStrobe};
 ghost use Rattle.sv_flat.specs.Short.{short, value_now, gone_on, assigned, target_value, object_of, text_now, printed_now, strobe_kept, watching};
-ghost use Rattle.sv_kernel.specs.Frames.{stmts_left, all_left, list_at, is_more, stmt_at};
+ghost use Rattle.sv_kernel.specs.Frames.{stmts_left, all_left, list_at, is_more, stmt_at, goes_on};
 ghost use Rattle.sv_kernel.specs.Machine.{Makes, AddsRecords, MayRun, SameMoment};
 ghost use Rattle.sv_kernel.specs.Prints.{strobe_at};
 ghost use Rattle.sv_kernel.specs.Statements.{Adds, Does};
@@ -43,7 +43,8 @@ pub fn run_statement(
     requires running { machine.old.running ≡ Some process }
     requires built { IsBuilt design.now }
     ensures ok { OnOk result (Makes design.now machine.old machine.new (statement_ran design.now (Some process))) }
-    ensures lines { IfOk result (λ lines. AddsRecords design.now machine.old (statement_ran design.now (Some process)) lines.items) }
+    ensures lines { IfOk result (λ lines.
+        AddsRecords design.now machine.old (statement_ran design.now (Some process)) lines.items) }
     ensures frame { SameMoment machine.old machine.new }
 {
     let Some(top) = first_at(&mut machine.processes, design, process) else {
@@ -150,7 +151,8 @@ pub fn enter(
 ) -> Result<(), NoMemory>
     requires may { MayRun design.now machine.old process }
     requires built { IsBuilt design.now }
-    ensures ok { OnOk result ((side : Side) → Does design.now machine.old machine.new process side (λ c u rest. gone_on process u (optional_body_in design.now body None ++ rest) c)) }
+    ensures ok { OnOk result ((side : Side) → Does design.now machine.old machine.new process side
+        (λ c u rest. gone_on process u (optional_body_in design.now body None ++ rest) c)) }
     ensures frame { SameMoment machine.old machine.new }
 {
     match body {
@@ -169,9 +171,11 @@ pub fn enter(
 /// The running process goes on where a statement is left.
 pub fn go_on(machine: &mut Machine, design: &Design, process: ProcessId)
     requires { process.0 < length machine.old.processes.items }
-    ensures same { machine.new ≡ record machine.old { processes = machine.new.processes; running = machine.new.running } }
+    ensures same { machine.new
+        ≡ record machine.old { processes = machine.new.processes; running = machine.new.running } }
     ensures left { all_left design.now machine.new.processes.items ≡ all_left design.now machine.old.processes.items }
-    ensures running { machine.new.running ≡ (if is_more (list_at (all_left design.now machine.old.processes.items) process.0) then Some process else None) }
+    ensures running { machine.new.running
+        ≡ goes_on process (list_at (all_left design.now machine.old.processes.items) process.0) }
 {
     let is_more = is_more_at(&mut machine.processes, design, process);
     machine.running = if is_more { Some(process) } else { None };

@@ -34,7 +34,8 @@ fn eval(
     requires expr { IsBuiltExpr design.now.objects expr.now }
     requires each { length values.now ≡ length design.now.objects }
     requires width { IsWidth context.width }
-    ensures value { (v : View) → Sees v values.now change.now → value_in expr.now context.width context.signed v ≡ Ok (val.Bits result) }
+    ensures value { (v : View) → Sees v values.now change.now
+        → value_in expr.now context.width context.signed v ≡ Ok (val.Bits result) }
     ensures width { length result.symbols ≡ context.width }
 {
     match &*expr.form {

@@ -49,7 +49,8 @@ pub fn next_time(machine: &mut Machine, design: &Design) -> Result<(), NoMemory>
 pub fn release(wheel: &mut Wheel, regions: &mut Regions, time: u64) -> Result<(), NoMemory>
     requires least { least_time wheel.old.events ≡ Some time }
     requires plain { AllByRecursion HoldsEvent wheel.old.events }
-    requires once { (p : ProcessId) → sum_by (one p) (standing regions.old) + sum_by (weight_of_event (one p)) wheel.old.events ≤ 1 }
+    requires once { (p : ProcessId)
+        → sum_by (one p) (standing regions.old) + sum_by (weight_of_event (one p)) wheel.old.events ≤ 1 }
     requires few { sum_by ones (standing regions.old) + sum_by (weight_of_event ones) wheel.old.events < 2 ^ 31 }
     ensures due { OnOk result (regions.new ≡ came_due (due_at time wheel.old.events) regions.old) }
     ensures rest { OnOk result (wheel.new.events ≡ not_due_at time wheel.old.events) }

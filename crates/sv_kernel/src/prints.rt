@@ -4,7 +4,7 @@ ghost use Rattle.std.specs.List.{AllByRecursion};
 ghost use Rattle.sv_flat.specs.Built.{IsBuilt, IsBuiltExpr, IsBuiltPrint, IsBuiltTarget};
 ghost use Rattle.sv_flat.specs.Short.{gone_on, printed_now, strobe_kept, text_now, watching};
 ghost use Rattle.sv_flat.specs.Sound.{IsPlainStrobe};
-ghost use Rattle.sv_kernel.specs.Prints.{strobe_at, IsPlainKept};
+ghost use Rattle.sv_kernel.specs.Prints.{strobe_at, IsPlainKept, PrintsStrobes};
 ghost use Rattle.sv_kernel.specs.Log.{records_of};
 ghost use Rattle.sv_kernel.specs.Statements.{Adds, Does};
 ghost use Rattle.sv_kernel.specs.Frames.{stmt_at};
@@ -132,8 +132,7 @@ pub fn print_strobes(machine: &Machine, design: &Design) -> Result<Printed, NoMe
     requires built { IsBuilt design.now }
     requires each { length machine.now.values.items ≡ length design.now.objects }
     requires strobes { AllByRecursion (IsPlainKept design.now) machine.now.strobes.items }
-    ensures { IfOk result (λ p. (c : Config) → c.fault ≡ None → machine.now.time ≡ c.time → store_of machine.now.values.items ≡ c.store
-        → strobes_printed design.now (map (strobe_at design.now) machine.now.strobes.items) c ≡ record c { records = c.records ++ records_of p.lines.items; fault = p.fault }) }
+    ensures { IfOk result (PrintsStrobes design.now machine.now) }
 {
     let mut lines = Vec::new(machine.alloc);
     for kept in &machine.strobes {

@@ -1,4 +1,4 @@
-// The steps of a slot: it begins, its processes and jobs have their turns, its regions move, it ends (IEEE 1800-2017, 4.5).
+// The steps of a slot: it begins, processes and jobs have their turns, regions move, it ends (IEEE 1800-2017, 4.5).
 ghost use Rattle.std.specs.Prelude.{◌≡◌, ◌<◌, ◌≤◌, ◌++◌, ◌+◌, ◌^◌, [], ℕ, OnOk, OnErr, IfOk, IsOk, IsNone, Some, None, length, ◌≢◌, true, false};
 ghost use Rattle.sv_value.specs.Regions.{pickable, is_bare, is_front_empty, job_count};
 ghost use Rattle.sv_flat.specs.declared.choices.Choices.{Choices};
@@ -29,13 +29,15 @@ pub fn advance(
     active: &Choices,
     reactive: &Choices,
 ) -> Result<Vec<Line>, NoMemory>
-    requires going { machine.old.phase ≡ Phase.Ended → (machine.old.finishing ≡ false) × (machine.old.wheel.events ≢ []) }
+    requires going { machine.old.phase ≡ Phase.Ended
+        → (machine.old.finishing ≡ false) × (machine.old.wheel.events ≢ []) }
     requires steady { IsSteady design.now machine.old }
     requires built { IsBuilt design.now }
     requires active { IsListed active.now }
     requires reactive { IsListed reactive.now }
     ensures ok { OnOk result (Makes design.now machine.old machine.new (advanced design.now active.now reactive.now)) }
-    ensures lines { IfOk result (λ lines. AddsRecords design.now machine.old (advanced design.now active.now reactive.now) lines.items) }
+    ensures lines { IfOk result (λ lines.
+        AddsRecords design.now machine.old (advanced design.now active.now reactive.now) lines.items) }
     ensures begins { machine.old.phase ≡ Phase.NotBegun → IsOk result }
     ensures moves { machine.old.phase ≡ Phase.Open → machine.old.finishing ≡ false → machine.old.running ≡ None
         → IsMoving (acting_set machine.old) → IsOk result }
@@ -75,8 +77,10 @@ fn in_slot(
     requires active { IsListed active.now }
     requires reactive { IsListed reactive.now }
     ensures ok { OnOk result (Makes design.now machine.old machine.new (advanced design.now active.now reactive.now)) }
-    ensures lines { IfOk result (λ lines. AddsRecords design.now machine.old (advanced design.now active.now reactive.now) lines.items) }
-    ensures moves { machine.old.finishing ≡ false → machine.old.running ≡ None → IsMoving (acting_set machine.old) → IsOk result }
+    ensures lines { IfOk result (λ lines.
+        AddsRecords design.now machine.old (advanced design.now active.now reactive.now) lines.items) }
+    ensures moves { machine.old.finishing ≡ false → machine.old.running ≡ None
+        → IsMoving (acting_set machine.old) → IsOk result }
     ensures time { machine.new.time ≡ machine.old.time }
 {
     if machine.finishing {
@@ -100,7 +104,8 @@ fn step_idle(
     requires built { IsBuilt design.now }
     requires steady { IsSteady design.now machine.old }
     ensures done { OnOk result (Makes design.now machine.old machine.new (idled design.now active.now reactive.now)) }
-    ensures lines { IfOk result (λ lines. AddsRecords design.now machine.old (idled design.now active.now reactive.now) lines.items) }
+    ensures lines { IfOk result (λ lines.
+        AddsRecords design.now machine.old (idled design.now active.now reactive.now) lines.items) }
     ensures moves { IsMoving (acting_set machine.old) → IsOk result }
     ensures time { machine.new.time ≡ machine.old.time }
 {
@@ -132,7 +137,8 @@ fn end_slot(machine: &mut Machine, design: &Design) -> Result<Vec<Line>, NoMemor
     requires built { IsBuilt design.now }
     requires steady { IsSteady design.now machine.old }
     ensures ended { OnOk result (Makes design.now machine.old machine.new (λ c. after design.now c End_slot)) }
-    ensures lines { IfOk result (λ lines. AddsRecords design.now machine.old (λ c. after design.now c End_slot) lines.items) }
+    ensures lines { IfOk result (λ lines.
+        AddsRecords design.now machine.old (λ c. after design.now c End_slot) lines.items) }
     ensures time { machine.new.time ≡ machine.old.time }
 {
     let side = acting(machine);

@@ -28,7 +28,8 @@ pub fn text_of(
     requires built { IsBuilt design.now }
     requires print { IsBuiltPrint design.now.objects pieces.now exprs.now }
     requires each { length values.now ≡ length design.now.objects }
-    ensures { IfOk result (λ t. (c : Config) → store_of values.now ≡ c.store → IsText t (text_now design.now pieces.now exprs.now c)) }
+    ensures { IfOk result (λ t.
+        (c : Config) → store_of values.now ≡ c.store → IsText t (text_now design.now pieces.now exprs.now c)) }
 {
     let all = values_of(alloc, design, exprs, values)?;
     let text = rendered(alloc, pieces, &all)?;
@@ -63,7 +64,8 @@ fn push_piece(
     requires built { IsBuiltPiece piece.now }
     requires within { place ≤ length values.now }
     ensures within { IfOk result (λ next. next ≤ length values.now) }
-    ensures text { IfOk result (λ next. (ticks : ℕ) (ps : List Piece) → text.new ++ rendered ticks ps (map val.Bits (drop next values.now))
+    ensures text { IfOk result (λ next. (ticks : ℕ) (ps : List Piece)
+        → text.new ++ rendered ticks ps (map val.Bits (drop next values.now))
         ≡ text.old ++ rendered ticks (piece.now ∷ ps) (map val.Bits (drop place values.now))) }
 {
     match piece {
@@ -93,7 +95,8 @@ fn values_of(
     requires built { IsBuilt design.now }
     requires exprs { AllByRecursion (IsBuiltExpr design.now.objects) exprs.now }
     requires each { length values.now ≡ length design.now.objects }
-    ensures { IfOk result (λ xs. (v : View) → Sees v values.now None → values_of exprs.now v ≡ Ok (map val.Bits xs.items)) }
+    ensures { IfOk result (λ xs.
+        (v : View) → Sees v values.now None → values_of exprs.now v ≡ Ok (map val.Bits xs.items)) }
 {
     let mut all = Vec::new(alloc);
     for expr in exprs {

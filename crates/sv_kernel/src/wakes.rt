@@ -7,7 +7,7 @@ ghost use Rattle.sv_value.specs.declared.val.Val.TheVariants as val;
 ghost use Rattle.sv_flat.specs.Built.{IsBuilt, IsBuiltEdge, IsBuiltWatch};
 ghost use Rattle.sv_flat.specs.State.{View};
 ghost use Rattle.sv_flat.specs.Woken.{Changed, makes, rises, falls, watch_fires, some_fires};
-ghost use Rattle.sv_kernel.specs.Expressions.{Sees};
+ghost use Rattle.sv_kernel.specs.Expressions.{Sees, AtChange};
 ghost use Rattle.sv_kernel.specs.Waits.{watches_of, watches_in};
 ghost use Rattle.sv_kernel.specs.Frames.{stmt_at};
 ghost use Rattle.sv_kernel.specs.Wakes.{woken_at, waits_after, ready_after, waits_weight, sides, TriedOne};
@@ -63,7 +63,7 @@ fn watch_fires(design: &Design, watch: &Watch, values: &[Bits], change: &Option<
     requires built { IsBuilt design.now }
     requires watch { IsBuiltWatch design.now.objects watch.now }
     requires each { length values.now ≡ length design.now.objects }
-    ensures { (old new : View) → Sees old values.now None → Sees new values.now change.now → result ≡ watch_fires watch.now Changed old new }
+    ensures { AtChange values.now change.now (λ old new. result ≡ watch_fires watch.now Changed old new) }
 {
     match watch {
         Watch::On {
@@ -84,7 +84,7 @@ fn some_fires(design: &Design, watches: &[Watch], values: &[Bits], change: &Opti
     requires built { IsBuilt design.now }
     requires watches { AllByRecursion (IsBuiltWatch design.now.objects) watches.now }
     requires each { length values.now ≡ length design.now.objects }
-    ensures { (old new : View) → Sees old values.now None → Sees new values.now change.now → result ≡ some_fires watches.now Changed old new }
+    ensures { AtChange values.now change.now (λ old new. result ≡ some_fires watches.now Changed old new) }
 {
     for watch in watches {
         if watch_fires(design, watch, values, change) {
@@ -108,7 +108,8 @@ fn watches_of(form: &Form) -> &[Watch]
 pub fn wakes(design: &Design, at: Frame, values: &[Bits], change: &Option<Change>) -> bool
     requires built { IsBuilt design.now }
     requires each { length values.now ≡ length design.now.objects }
-    ensures { (old new : View) → Sees old values.now None → Sees new values.now change.now → result ≡ some_fires (watches_in (stmt_at design.now at)) Changed old new }
+    ensures { AtChange values.now change.now
+        (λ old new. result ≡ some_fires (watches_in (stmt_at design.now at)) Changed old new) }
 {
     match design.body(at.body).get(at.next) {
         Some(stmt) => some_fires(design, watches_of(&stmt.form), values, change),
@@ -129,7 +130,8 @@ fn wake_one(
     requires each { length values.now ≡ length design.now.objects }
     requires known { number < length design.now.processes }
     requires count { length waits.old.items ≡ length design.now.processes }
-    requires absent { (f : Frame) → slice_get waits.old.items number ≡ Some (Some f) → ¬ Contains (standing regions.old) (record { 0 = number }) }
+    requires absent { (f : Frame) → slice_get waits.old.items number ≡ Some (Some f)
+        → ¬ Contains (standing regions.old) (record { 0 = number }) }
     requires few { length (standing regions.old) < 2 ^ 31 }
     ensures { OnOk result ((s : Side) → slice_get (sides design.now) number ≡ Some s
         → TriedOne design.now values.now change.now number s waits.old.items regions.old waits.new.items regions.new) }

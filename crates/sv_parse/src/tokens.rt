@@ -2,7 +2,7 @@
 ghost use Rattle.std.specs.Prelude.{◌≡◌, [], ◌∷◌, Ok};
 ghost use Rattle.sv_grammar.specs.Tokens.{mem, next};
 ghost use Rattle.sv_grammar.specs.Reading.{one_of};
-ghost use Rattle.sv_tree.specs.Codes.{code, tok, toks, next_code};
+ghost use Rattle.sv_tree.specs.Codes.{code, tok, toks};
 ghost use Rattle.sv_tree.specs.Forms.{optional};
 ghost use Rattle.sv_tree.specs.Forms as forms;
 ghost use Rattle.sv_tree.specs.Grammar.{reads};
@@ -56,16 +56,6 @@ pub fn code_of(kind: Kind) -> u8
     ensures { result ≡ code kind }
 {
     kind as u8 + 1
-}
-
-/// The kind of the next token.
-pub fn next_kind(tokens: &[Token]) -> Option<Kind>
-    ensures { next_code result ≡ (next (toks tokens.now)).code }
-{
-    match tokens {
-        [] => None,
-        [first, ..] => Some(first.kind),
-    }
 }
 
 /// Whether the next token is of this kind.

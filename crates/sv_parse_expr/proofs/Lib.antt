@@ -1,8 +1,11 @@
-pub mod Loops
-pub mod Parts
-pub mod ArgumentLaws
+pub mod Budgets
+pub mod Outcomes
+pub mod Lists
+pub mod Known
 pub mod Links
+pub mod Recast
 pub mod Prims
-pub mod Calls
-pub mod Exact
+pub mod Operands
+pub mod Braces
 pub mod TargetLaws
+pub mod Exact

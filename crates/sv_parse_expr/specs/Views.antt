@@ -1,63 +1,61 @@
--- What the values of the code stand for.
-use Rattle.std.specs.Prelude.{List, map, Option, Some, None}
-use Rattle.sv_grammar.specs.Tokens.{Tok}
-use Rattle.sv_tree.specs.Codes.{toks}
-use Rattle.sv_tree.specs.Expr as tree
-use Rattle.sv_tree.specs.View.{expr, expr_list, suffix, suffix_list}
-use Rattle.sv_tree.specs.Forms.{Bracketed}
-use Rattle.sv_parse_expr.specs.declared.found.Found.{Found}
-use Rattle.sv_parse_expr.specs.declared.found.FoundExprs.{FoundExprs}
-use Rattle.sv_parse_expr.specs.declared.found.FoundBracket.{FoundBracket}
-use Rattle.sv_parse_expr.specs.declared.found.FoundSuffix.{FoundSuffix}
-use Rattle.sv_parse_expr.specs.declared.found.FoundSuffixes.{FoundSuffixes}
-use Rattle.sv_parse_expr.specs.declared.found.FoundPost.{FoundPost}
-use Rattle.sv_parse_expr.specs.declared.target.FoundRooted.{FoundRooted}
-use Rattle.sv_parse_expr.specs.declared.target.FoundTarget.{FoundTarget}
-use Rattle.sv_parse_expr.specs.declared.target.FoundTargets.{FoundTargets}
-use Rattle.sv_parse_expr.specs.declared.target.FoundArguments.{FoundArguments}
-use Rattle.sv_parse_expr.specs.declared.target.Arguments.{Arguments}
+-- What the values of the readers stand for.
+use Rattle.std.specs.Prelude.{◌≡◌, ℕ, ◌≤◌, List, Vec, map}
+use Rattle.std.specs.Global.{Global}
+use Rattle.sv_grammar.specs.Code.{larger}
 use Rattle.sv_tree.specs.declared.expr.Root.{Root}
-use Rattle.sv_tree.specs.StmtView.{lval}
-use Rattle.sv_tree.specs.declared.word.Name.{Name}
-
-abbrev pub found : Found → tree.Expr × List Tok
-found f = (expr f.tree, toks f.rest.now)
-
-abbrev pub found_exprs : FoundExprs → List tree.Expr × List Tok
-found_exprs f = (map expr f.list.items, toks f.rest.now)
-
-abbrev pub found_bracket : FoundBracket → Bracketed × List Tok
-found_bracket f = (record { at = f.at; list = expr_list f.list.items }, toks f.rest.now)
-
-abbrev pub found_suffix : FoundSuffix → (tree.Suffixes → tree.Suffixes) × List Tok
-found_suffix f = (suffix f.suffix, toks f.rest.now)
-
--- each as what it makes of those after it
-abbrev pub found_list : FoundSuffixes → List (tree.Suffixes → tree.Suffixes) × List Tok
-found_list f = (map suffix f.list.items, toks f.rest.now)
-
-abbrev pub found_suffixes : FoundSuffixes → tree.Suffixes × List Tok
-found_suffixes f = (suffix_list f.list.items, toks f.rest.now)
-
-abbrev pub found_post : FoundPost → (Option Name × tree.Suffixes) × List Tok
-found_post f = ((f.second, suffix_list f.list.items), toks f.rest.now)
+use Rattle.sv_tree.specs.declared.expr.Expr.{Expr}
+use Rattle.sv_tree.specs.declared.expr.Actuals.{Actuals}
+use Rattle.sv_tree.specs.declared.expr.Suffix.{Suffix}
+use Rattle.sv_tree.specs.Depth.{actuals_depth, depth, exprs_depth, suffixes_depth}
+use Rattle.sv_tree.specs.Expr as tree
+use Rattle.sv_tree.specs.Forms as forms
+use Rattle.sv_tree.specs.View.{actuals, expr, expr_list, suffix, suffix_list}
+use Rattle.sv_parse_expr.specs.declared.measured.Measured.{Measured}
+use Rattle.sv_parse_expr.specs.declared.measured.Bracketed.{Bracketed}
+use Rattle.sv_parse_expr.specs.declared.posts.Post.{Post}
 
 -- a name with what follows it
-abbrev pub found_rooted : FoundRooted → (Root × tree.Suffixes) × List Tok
-found_rooted f = ((f.root, suffix_list f.list.items), toks f.rest.now)
+abbrev pub post : Post → Root × tree.Suffixes
+post p = (p.root, suffix_list p.suffixes.items)
 
--- a target
-abbrev pub found_target : FoundTarget → tree.Lval × List Tok
-found_target f = (lval f.target, toks f.rest.now)
+-- a tree, without its depth
+abbrev pub measured : {X Y : Type 0} → (X → Y) → Measured X → Y
+measured view m = view m.tree
 
--- targets
-abbrev pub found_targets : FoundTargets → List tree.Lval × List Tok
-found_targets f = (map lval f.list.items, toks f.rest.now)
+-- expressions
+abbrev pub exprs : Vec Expr Global → List tree.Expr
+exprs v = map expr v.items
 
--- arguments in brackets, with the place of the first, or none
-abbrev pub arguments_of : Option Arguments → Option Bracketed
-arguments_of None = None
-arguments_of (Some a) = Some (record { at = a.at; list = expr_list a.list.items })
+-- what follows a name
+abbrev pub all_suffixes : Vec Suffix Global → tree.Suffixes
+all_suffixes v = suffix_list v.items
 
-abbrev pub found_arguments : FoundArguments → Option Bracketed × List Tok
-found_arguments f = (arguments_of f.arguments, toks f.rest.now)
+-- expressions in brackets
+abbrev pub bracketed : Bracketed → forms.Bracketed
+bracketed b = record { at = b.at; list = expr_list b.list.items }
+
+-- ---- the depths that are told are those of the trees, and fit
+
+-- an expression
+abbrev pub Fitting : ℕ → Measured Expr → Type 0
+Fitting d m = (m.depth ≡ depth (expr m.tree)) × (m.depth ≤ d)
+
+-- expressions
+abbrev pub FittingExprs : ℕ → Measured (Vec Expr Global) → Type 0
+FittingExprs d m = (m.depth ≡ exprs_depth (expr_list m.tree.items)) × (m.depth ≤ d)
+
+-- expressions in brackets, where the brackets do not count
+abbrev pub FittingBracketed : ℕ → Measured Bracketed → Type 0
+FittingBracketed d m = (m.depth ≡ exprs_depth (expr_list m.tree.list.items)) × (m.depth ≤ d)
+
+-- arguments that may be left out
+abbrev pub FittingActuals : ℕ → Measured Actuals → Type 0
+FittingActuals d m = (m.depth ≡ actuals_depth (actuals m.tree)) × (m.depth ≤ d)
+
+-- one that follows a name
+abbrev pub FittingSuffix : ℕ → Measured Suffix → Type 0
+FittingSuffix d m = ((rest : tree.Suffixes) → suffixes_depth (suffix m.tree rest) ≡ larger m.depth (suffixes_depth rest)) × (m.depth ≤ d)
+
+-- all that follow a name
+abbrev pub FittingSuffixes : ℕ → Measured (Vec Suffix Global) → Type 0
+FittingSuffixes d m = (m.depth ≡ suffixes_depth (suffix_list m.tree.items)) × (m.depth ≤ d)

@@ -1,8 +1,7 @@
 -- How what an object holds is kept.
 use Rattle.std.specs.Prelude.{◌≡◌, ◌≤◌, ℕ, List}
 use Rattle.std.specs.List.{AllByRecursion}
-use Rattle.sv_value.specs.declared.word.TheConstants.{WIDEST}
-use Rattle.sv_value.specs.Vector.{Vector}
+use Rattle.sv_value.specs.Vector.{Vector, widest}
 use Rattle.sv_flat.specs.State.{Stored, Elements, Net, net_value}
 use Rattle.sv_store.specs.declared.slot.Form.{Form}
 use Rattle.sv_store.specs.declared.slot.Form.TheVariants as form
@@ -16,7 +15,7 @@ stored_in (form.Net width drivers value) = Net width drivers.items
 -- the value that is kept beside the drivers of a net is theirs
 pub record IsResolved (width : ℕ) (drivers : List Vector) (value : Vector) : Type 0 where
   pub at_least_one : 1 ≤ width
-  pub fits : width ≤ WIDEST
+  pub fits : width ≤ widest
   pub each_wide : AllByRecursion (IsWide width) drivers
   pub resolved : value ≡ net_value width drivers
 

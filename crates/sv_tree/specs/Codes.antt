@@ -1,5 +1,5 @@
 -- Tokens as the grammar sees them: the kinds by number (own).
-use Rattle.std.specs.Prelude.{ℕ, List, map, Option, Some, None}
+use Rattle.std.specs.Prelude.{ℕ, List, map}
 use Rattle.sv_grammar.specs.Tokens.{Tok}
 use Rattle.sv_tree.specs.declared.kind.Kind.{Kind}
 use Rattle.sv_tree.specs.declared.kind.Kind.TheVariants as kinds
@@ -170,8 +170,3 @@ tok t = record { code = code t.kind; at = t.at; text = t.text }
 -- all tokens so
 abbrev pub toks : List Token → List Tok
 toks ts = map tok ts
-
--- the number of the next token's kind, 0 where there is none
-abbrev pub next_code : Option Kind → ℕ
-next_code None = 0
-next_code (Some k) = code k

@@ -1,4 +1,4 @@
-use Rattle.std.proofs.Common.{rules, ◌≡◌, ◌∙◌, ◌∷◌, ◌++◌, [], List, Some, None, Bool, true, false, map, slice_set, ap, refl, subst, sym}
+use Rattle.std.proofs.Common.{rules, ◌≡◌, ◌∙◌, ◌∷◌, ◌++◌, [], List, Some, None, Bool, true, false, map, slice_set, ap, subst, sym}
 use Rattle.sv_value.specs.declared.number.ProcessId.{ProcessId}
 use Rattle.sv_value.specs.declared.schedule.Side.{Side}
 use Rattle.sv_value.specs.Operators.{is_true}

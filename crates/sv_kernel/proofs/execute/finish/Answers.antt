@@ -1,4 +1,4 @@
-use Rattle.std.proofs.Common.{rules, true}
+use Rattle.std.proofs.Common.{true}
 use Rattle.sv_kernel.specs.declared.machine.Machine.{Machine}
 use Rattle.sv_kernel.proofs.ProcessLemmas.{gone}
 use Rattle.sv_kernel.proofs.LaterLemmas.{finishes}
