@@ -4,12 +4,13 @@ use Rattle.sv_io.specs.Faults.{Rose}
 use Rattle.sv_io.specs.Outside.{appended}
 use mathlib.Core.List.{IsPrefix}
 use Rattle.sv_flat.specs.declared.design.Parts.{Parts}
-use Rattle.sv_flat.specs.Directed.{log_text}
+use Rattle.sv_flat.specs.Config.{Record}
+use Rattle.sv_flat.specs.Directed.{log_of, log_text}
 use Rattle.svsim.specs.declared.run.Closing.{Closing}
 use Rattle.svsim.specs.declared.run.Cut.{Cut}
-use Rattle.svsim.specs.declared.run.Cut.TheVariants.{LogFailed}
+use Rattle.svsim.specs.declared.run.Cut.TheVariants.{LogFailed, Memory}
 use Rattle.svsim.specs.Said.{Said, Limits, Files, SaysOn, Says, IsLine, line, run_of}
-use Rattle.svsim.specs.Simulated.{NoFault, IsPrefixOfRecords, IsAllSaid, NamesFile}
+use Rattle.svsim.specs.Simulated.{NoFault, IsPrefixOfRecords, AreRecords, IsAllSaid, NamesFile}
 use Rattle.svsim.specs.Source.{IsSource}
 use Rattle.svsim.specs.Words.{Asked, asked}
 
@@ -54,6 +55,13 @@ PutsRecords a text o =
     (records : List ℕ) × ((records ≡ []) ⊎ ((d : Parts) × IsSource text d × IsPrefix records (log_text true (run_of a.active a.steps d))))
     × (o.new ≡ appended o.old records)
 
+-- the first records of the run of the text were put, each whole
+abbrev pub PutsWhole : Asked → List ℕ → LogSeen → Type 0
+PutsWhole a text o =
+    (bytes : List ℕ)
+    × ((bytes ≡ []) ⊎ ((d : Parts) × IsSource text d × (rs : List Record) × IsPrefix rs (run_of a.active a.steps d).records × (bytes ≡ log_of true rs)))
+    × (o.new ≡ appended o.old bytes)
+
 -- a call gives a closing, or tells what cut it short
 pub record Closes (o : LogSeen) (r : Result Closing Cut) : Type 0 where
   pub own : IfOk r (λ c. c.status < 6)
@@ -67,5 +75,6 @@ pub record Answers (l : Limits) (words : List (List ℕ)) (s : ShelfSeen) (o : L
   pub not_read : IfOk r (λ c. s.after ≢ s.before → IsNotRead l words s o c)
   pub shelf : s.after ≢ s.before → Rose s.before s.after × NamesFile l words s.failed
   pub put : (records : List ℕ) × IsPrefixOfRecords l words s.files records × (o.new ≡ appended o.old records)
+  pub memory : IsErrOf r Memory → (records : List ℕ) × AreRecords l words s.files records × (o.new ≡ appended o.old records)
   pub all : IfOk r (λ c. (records : List ℕ) × IsAllSaid l words s.files records (string_bytes c.line) × (o.new ≡ appended o.old records))
   pub closed : Closes o r

@@ -1,9 +1,11 @@
 -- What a call leaves in the log, whatever happens outside.
-use Rattle.std.specs.Prelude.{ℕ, ◌≡◌, ◌<◌, ◌^◌, ◌++◌, [], List, Option, Some, codes, map, String, Vec, string_bytes, ◌⊎◌}
+use Rattle.std.specs.Prelude.{ℕ, ◌≡◌, ◌<◌, ◌^◌, ◌++◌, [], List, Option, Some, codes, true, map, String, Vec, string_bytes, ◌⊎◌}
 use Rattle.std.specs.Global.{Global}
 use Rattle.sv_io.specs.Outside.{appended}
 use mathlib.Core.List.{IsPrefix}
-use Rattle.svsim.specs.Said.{Said, Limits, Files, Says, line, IsPrefixOfLine}
+use Rattle.sv_flat.specs.Config.{Config, Record}
+use Rattle.sv_flat.specs.Directed.{log_of}
+use Rattle.svsim.specs.Said.{Said, Limits, Files, Says, Runs, line, IsPrefixOfLine}
 use Rattle.svsim.specs.Words.{Asked, asked}
 
 -- the words, as texts
@@ -25,6 +27,11 @@ PutsAll l words files old new status =
 abbrev pub IsPrefixOfRecords : Limits → List (List ℕ) → Files → List ℕ → Type 0
 IsPrefixOfRecords l words files records = (records ≡ []) ⊎ ((said : Said) × Says l words files said × IsPrefix records said.records)
 
+-- these bytes are the first records of the run that is asked for, each whole
+abbrev pub AreRecords : Limits → List (List ℕ) → Files → List ℕ → Type 0
+AreRecords l words files bytes =
+    (bytes ≡ []) ⊎ ((c : Config) × Runs l words files c × (rs : List Record) × IsPrefix rs c.records × (bytes ≡ log_of true rs))
+
 -- a prefix of the records was put, and then a prefix of one line
 abbrev pub PutsPrefix : Limits → List (List ℕ) → Files → (old new : Option (List ℕ)) → Type 0
 PutsPrefix l words files old new =
@@ -36,18 +43,18 @@ pub data IsAllSaid (l : Limits) (words : List (List ℕ)) (files : Files) : (rec
   not_read : (a : Asked) → asked l.steps words ≡ Some a → IsAllSaid l words files [] (line (a.file ++ codes ": not read"))
 
 -- What a log has that failed: of the records those up to one that was not put whole, or all of them and a prefix of the closing line;
--- where memory ran out, a prefix of the line that says so may stand in its place.
+-- where memory ran out before, the first records, each whole, and a prefix of the line that says so.
 abbrev pub IsCut : Limits → List (List ℕ) → Files → (old new : Option (List ℕ)) → Type 0
 IsCut l words files old new =
     (records rest : List ℕ) × (new ≡ appended old (records ++ rest))
     × ((IsPrefixOfRecords l words files records × (rest ≡ []))
     ⊎ ((closing : List ℕ) × IsAllSaid l words files records closing × IsPrefix rest closing)
-    ⊎ (IsPrefixOfRecords l words files records × IsPrefix rest (line (codes "out of memory"))))
+    ⊎ (AreRecords l words files records × IsPrefix rest (line (codes "out of memory"))))
 
--- What a log has where memory ran out: a prefix of the records, and behind it nothing, or the line that says so.
+-- What a log has where memory ran out: the first records, each whole, and behind them nothing, or the line that says so.
 abbrev pub IsOutOfMemory : Limits → List (List ℕ) → Files → (old new : Option (List ℕ)) → Type 0
 IsOutOfMemory l words files old new =
-    (records rest : List ℕ) × IsPrefixOfRecords l words files records × ((rest ≡ []) ⊎ (rest ≡ line (codes "out of memory")))
+    (records rest : List ℕ) × AreRecords l words files records × ((rest ≡ []) ⊎ (rest ≡ line (codes "out of memory")))
     × (new ≡ appended old (records ++ rest))
 
 -- ---- the shelf

@@ -29,6 +29,20 @@ returns-in-Ok g c = λ most words asks.
         ],
         put.2,
       );
+      memory = λ e. let h = c.run_text.ensures.memory e in (
+        h.0,
+        elim h.1 [
+          | inl x ↦ inl x
+          | inr w ↦ inr (
+            run_of a.active a.steps w.0,
+            record { simulation = a; text = text; design = w.0; asks = asks; found = given; short = short; source = w.1; run = refl },
+            w.2,
+            w.3,
+            w.4,
+          )
+        ],
+        h.2,
+      );
       all = if_ok_only c.run_text.result _ _
           (λ x h. let k = h c.args.limit short in all_of (within c.args.limit most) words files k.0 _ (g.O.Sink.bytes c.args.out.now) _ (on_file a text asks given k.1) k.3 k.2)
           c.run_text.ensures.said;
@@ -47,6 +61,7 @@ returns-in-Err-Long g c = λ most words asks.
       not_read = search rules;
       shelf = search rules;
       put = search rules;
+      memory = λ e. absurd (cc e);
       all = all_of (within c.args.limit most) words files _ _ (g.O.Sink.bytes c.args.out.now) _ (on_file a t.0 asks given (too_long t.2)) closing (nothing_put _);
       closed = search rules;
     }
@@ -61,6 +76,7 @@ returns-in-Err-Failed g c = λ most words asks.
       not_read = λ _. record { simulation = a; asks = asks; name = search rules; line_is = closing; status_is = refl; nothing = refl };
       shelf = search rules;
       put = search rules;
+      memory = λ e. absurd (cc e);
       all = ([], subst (IsAllSaid (within c.args.limit most) words files []) (sym closing) (not_read a asks), nothing_put _);
       closed = search rules;
     }
