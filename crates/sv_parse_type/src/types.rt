@@ -181,7 +181,7 @@ impl Part for EnumItems {
 
     #[tactic(auto, unfolding(sv_tree::specs::TypeGrammar::enum_item))]
     fn read<'a>(alloc: Global, tokens: &'a [Token], budget: Budget) -> Read<'a, EnumItem> {
-        let (name, rest) = name(alloc, tokens)?;
+        let (name, rest) = name(tokens)?;
         let (value, rest) = maybe::<Values>(alloc, rest, budget)?;
         Ok((EnumItem { name, value }, rest))
     }
@@ -292,7 +292,7 @@ pub fn written_type<'a>(alloc: Global, tokens: &'a [Token], budget: Budget) -> R
     ensures { Reads view.type budget grammar.type tokens.now result }
 {
     if !begins_word_type(tokens) {
-        let (name, rest) = name(alloc, tokens)?;
+        let (name, rest) = name(tokens)?;
         return Ok((WrittenType::Named(name), rest));
     }
     word_type(alloc, tokens, budget)
