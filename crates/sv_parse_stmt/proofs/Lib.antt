@@ -1,0 +1,4 @@
+pub mod Kinds
+pub mod Shapes
+pub mod DelayLaws
+pub mod EventLaws

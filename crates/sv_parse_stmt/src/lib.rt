@@ -5,6 +5,7 @@
 
 mod blocks;
 mod delays;
+mod events;
 mod reader;
 mod whole;
 

@@ -7,7 +7,7 @@ ghost use Rattle.sv_tree.specs.Grammar.{texts_of};
 ghost use Rattle.sv_tree.specs.Stmt as tree;
 ghost use Rattle.sv_tree.specs.StmtView as view;
 ghost use Rattle.sv_parse.specs.Tells.{ReadsTo, Tells};
-ghost use Rattle.sv_parse_stmt.specs.Whole.{AnswersStmt};
+ghost use Rattle.sv_parse_expr.specs.Answers.{Answers};
 
 use std::alloc::Global;
 use sv_parse::SyntaxFault;
@@ -28,7 +28,7 @@ pub fn stmt(
     requires place { from ≤ length tokens.now }
     requires depth { depth < most_depth }
     ensures told { Tells view.stmt (texts_of statement) (most_depth - depth) (toks tokens.now) from result }
-    ensures only { (s : tree.Stmt) (end : ℕ) → ReadsTo (texts_of statement) (most_depth - depth) (toks tokens.now) from s end → AnswersStmt s end result }
+    ensures only { (s : tree.Stmt) (end : ℕ) → ReadsTo (texts_of statement) (most_depth - depth) (toks tokens.now) from s end → Answers view.stmt s end result }
 {
     Err(SyntaxFault::Memory)
 }
