@@ -5,7 +5,7 @@ ghost use Rattle.sv_tree.specs.Codes.{toks};
 ghost use Rattle.sv_tree.specs.TypeGrammar as grammar;
 ghost use Rattle.sv_tree.specs.StmtView as view;
 ghost use Rattle.sv_tree.specs.Grammar.{reads};
-ghost use Rattle.sv_parse.specs.Outcome.{Gives};
+ghost use Rattle.sv_parse.specs.Outcome.{Gives, Reads, seen};
 ghost use Rattle.sv_parse_type.specs.Applied.{applied};
 ghost use Rattle.sv_parse_type.specs.Begins.{word_decl_first};
 
@@ -23,19 +23,14 @@ pub fn begins_word_decl(tokens: &[Token]) -> bool
 
 /// `decl`, but for those that a name begins
 pub fn word_decl<'a>(_alloc: Global, tokens: &'a [Token], budget: Budget) -> Read<'a, Decl>
-    ensures { Gives (λ x. (view.decl x.0, toks x.1.now)) result (reads budget grammar.word_decl (toks tokens.now)) }
+    ensures { Reads view.decl budget grammar.word_decl tokens.now result }
 {
     Err(ReadError::Memory)
 }
 
 /// `type list(..) ";"`, after the words before it
-pub fn typed<'a>(
-    _alloc: Global,
-    life: Life,
-    tokens: &'a [Token],
-    budget: Budget,
-) -> Read<'a, Decl>
-    ensures { Gives (λ x. (view.decl x.0, toks x.1.now)) result (reads budget (grammar.typed life) (toks tokens.now)) }
+pub fn typed<'a>(_alloc: Global, life: Life, tokens: &'a [Token], budget: Budget) -> Read<'a, Decl>
+    ensures { Reads view.decl budget (grammar.typed life) tokens.now result }
 {
     Err(ReadError::Memory)
 }

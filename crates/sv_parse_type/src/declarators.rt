@@ -6,7 +6,7 @@ ghost use Rattle.sv_tree.specs.Stmt as stmts;
 ghost use Rattle.sv_tree.specs.TypeGrammar as grammar;
 ghost use Rattle.sv_tree.specs.StmtView as view;
 ghost use Rattle.sv_tree.specs.Grammar.{reads};
-ghost use Rattle.sv_parse.specs.Outcome.{Gives};
+ghost use Rattle.sv_parse.specs.Outcome.{Gives, Reads, seen};
 ghost use Rattle.sv_parse.proofs.TypeParts.{declarator_known, declarator_listed};
 ghost use Rattle.sv_parse_type.specs.Applied.{applied};
 
@@ -44,12 +44,12 @@ impl Listed for Declarators {
 }
 
 /// `list(id [dim] ["=" init])`
-pub fn declarators<'a>(
+pub fn declarator_list<'a>(
     _alloc: Global,
     tokens: &'a [Token],
     budget: Budget,
 ) -> Read<'a, Vec<Declarator>>
-    ensures { Gives (λ x. (map view.declarator x.0.items, toks x.1.now)) result (reads budget grammar.declarators (toks tokens.now)) }
+    ensures { Reads (seen view.declarator) budget grammar.declarators tokens.now result }
 {
     Err(ReadError::Memory)
 }
@@ -61,7 +61,7 @@ pub fn more_declarators<'a>(
     tokens: &'a [Token],
     budget: Budget,
 ) -> Read<'a, Vec<Declarator>>
-    ensures { Gives (λ x. (map view.declarator x.0.items, toks x.1.now)) result (applied name (reads budget grammar.more_declarators (toks tokens.now))) }
+    ensures { Gives (λ x. (seen view.declarator x.0, toks x.1.now)) result (applied name (reads budget grammar.more_declarators (toks tokens.now))) }
 {
     Err(ReadError::Memory)
 }

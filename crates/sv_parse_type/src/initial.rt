@@ -10,7 +10,7 @@ ghost use Rattle.sv_tree.specs.TypeGrammar as grammar;
 ghost use Rattle.sv_tree.specs.View.{expr};
 ghost use Rattle.sv_tree.specs.StmtView as view;
 ghost use Rattle.sv_tree.specs.Grammar.{reads};
-ghost use Rattle.sv_parse.specs.Outcome.{Gives};
+ghost use Rattle.sv_parse.specs.Outcome.{Gives, Reads, seen};
 ghost use Rattle.sv_parse.proofs.TypeParts.{enclosed_known, given_init_known};
 
 use std::alloc::Global;
@@ -44,7 +44,7 @@ impl Part for Enclosed {
 
 /// `init`
 pub fn init<'a>(_alloc: Global, tokens: &'a [Token], budget: Budget) -> Read<'a, Init>
-    ensures { Gives (λ x. (view.init x.0, toks x.1.now)) result (reads budget grammar.init (toks tokens.now)) }
+    ensures { Reads view.init budget grammar.init tokens.now result }
 {
     Err(ReadError::Memory)
 }

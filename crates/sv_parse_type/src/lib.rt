@@ -14,7 +14,7 @@ mod initial;
 mod types;
 
 pub use declarations::{begins_word_decl, named_decl_rest, typed, word_decl};
-pub use declarators::{Declarators, declarators, more_declarators};
+pub use declarators::{Declarators, declarator_list, more_declarators};
 pub use dimensions::Dimensions;
 pub use initial::{Enclosed, Inits, init};
 pub use types::{BoxedRanges, Ranges, begins_word_type, word_type, written_type};

@@ -7,7 +7,7 @@ ghost use Rattle.sv_tree.specs.Types as types;
 ghost use Rattle.sv_tree.specs.TypeGrammar as grammar;
 ghost use Rattle.sv_tree.specs.StmtView as view;
 ghost use Rattle.sv_tree.specs.Grammar.{reads};
-ghost use Rattle.sv_parse.specs.Outcome.{Gives};
+ghost use Rattle.sv_parse.specs.Outcome.{Gives, Reads, seen};
 ghost use Rattle.sv_parse.proofs.TypeParts.{range_known};
 ghost use Rattle.sv_parse_type.specs.Begins.{word_type_first};
 
@@ -100,7 +100,7 @@ fn is_type_word(kind: Kind) -> bool
 
 /// A type that a word begins.
 pub fn word_type<'a>(_alloc: Global, tokens: &'a [Token], budget: Budget) -> Read<'a, WrittenType>
-    ensures { Gives (λ x. (view.type x.0, toks x.1.now)) result (reads budget grammar.word_type (toks tokens.now)) }
+    ensures { Reads view.type budget grammar.word_type tokens.now result }
 {
     Err(ReadError::Memory)
 }
@@ -111,7 +111,7 @@ pub fn written_type<'a>(
     tokens: &'a [Token],
     budget: Budget,
 ) -> Read<'a, WrittenType>
-    ensures { Gives (λ x. (view.type x.0, toks x.1.now)) result (reads budget grammar.type (toks tokens.now)) }
+    ensures { Reads view.type budget grammar.type tokens.now result }
 {
     Err(ReadError::Memory)
 }
