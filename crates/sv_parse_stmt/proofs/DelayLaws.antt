@@ -2,7 +2,7 @@
 use Rattle.std.proofs.Common.{◌≡◌, ℕ, true, false, List, [], ◌∷◌, refl}
 use Rattle.sv_grammar.specs.Tokens.{Tok, next, mem}
 use Rattle.sv_grammar.specs.Code.Code.{Map}
-use Rattle.sv_parse_stmt.proofs.Kinds.{is_one}
+use Rattle.sv_parse_stmt.proofs.KindLaws.{is_one}
 use Rattle.sv_tree.specs.declared.kind.Kind.TheVariants as k
 use Rattle.sv_tree.specs.declared.expr.Root.TheVariants as root
 use Rattle.sv_tree.specs.Codes.{code}

@@ -9,7 +9,7 @@ use Rattle.sv_tree.specs.Forms.{tok, name, pair, ◌▸◌, ◌◂◌}
 use Rattle.sv_tree.specs.StmtGrammar.{event_part, next_event_part, event_parts, event_list, event}
 use Rattle.sv_tree.specs.Grammar.{reads}
 use Rattle.sv_tree.proofs.KnownStmts.{event_parts_known, event_list_known}
-use Rattle.sv_parse_stmt.proofs.Kinds.{is_one}
+use Rattle.sv_parse_stmt.proofs.KindLaws.{is_one}
 
 module _ (d : ℕ) (ts : List Tok) where
   pub list_star : mem (next ts).code (code k.Star ∷ []) ≡ true → reads d event_list ts ≡ reads d (Map (λ t. stmts.Star) (tok k.Star ◂ k.RightParenthesis)) ts

@@ -1,4 +1,5 @@
-pub mod Kinds
+pub mod KindLaws
 pub mod Shapes
 pub mod DelayLaws
 pub mod EventLaws
+pub mod AssignmentLaws

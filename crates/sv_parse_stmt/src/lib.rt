@@ -3,6 +3,7 @@
 //! The parser descends by recursion with one token of look-ahead, over a budget of depth, as that of expressions does.
 #![tactic(auto)]
 
+mod assignments;
 mod blocks;
 mod delays;
 mod events;
