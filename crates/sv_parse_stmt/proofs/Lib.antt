@@ -3,3 +3,4 @@ pub mod Shapes
 pub mod DelayLaws
 pub mod EventLaws
 pub mod AssignmentLaws
+pub mod ForLaws

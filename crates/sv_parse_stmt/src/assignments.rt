@@ -32,12 +32,7 @@ fn begins_assignment(tokens: &[Token]) -> bool
 
 /// `"=" [delay] init ";"`
 #[tactic(auto, unfolding(sv_tree::specs::StmtGrammar::blocking_rest))]
-fn blocking<'a>(
-    alloc: Global,
-    target: Lval,
-    tokens: &'a [Token],
-    budget: Budget,
-) -> Read<'a, Body>
+fn blocking<'a>(alloc: Global, target: Lval, tokens: &'a [Token], budget: Budget) -> Read<'a, Body>
     ensures { Gives (λ x. (view.body x.0, toks x.1.now)) result (applied (view.lval target) (reads budget grammar.blocking_rest (toks tokens.now))) }
 {
     let (_, rest) = expect(tokens, Kind::Equals)?;

@@ -7,6 +7,7 @@ mod assignments;
 mod blocks;
 mod delays;
 mod events;
+mod for_parts;
 mod reader;
 mod whole;
 
