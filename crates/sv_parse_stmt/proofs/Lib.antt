@@ -4,3 +4,4 @@ pub mod DelayLaws
 pub mod EventLaws
 pub mod AssignmentLaws
 pub mod ForLaws
+pub mod HeadLaws

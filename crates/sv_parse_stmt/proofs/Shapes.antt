@@ -58,6 +58,10 @@ fails_after (errors.Unexpected rest) o f h = rw h refl
 pub pair_is : {A B D : Type 0} (g : A → B → D) (a : C A) (b : C B) (d : ℕ) (ts : List Tok) → reads d (pair g a b) ts ≡ (reads d a ts >>= λ x. made (λ y. g x.0 y) (reads d b x.1))
 pair_is g a b d ts = made_row (λ p. g p.0 p.1) (reads d a ts) (λ r. reads d b r)
 
+-- three, one after the other
+pub triple_is : {A B D R : Type 0} (g : A → B → D → R) (a : C A) (b : C B) (c : C D) (d : ℕ) (ts : List Tok) → reads d (triple g a b c) ts ≡ (reads d a ts >>= λ x. reads d b x.1 >>= λ y. made (λ z. g x.0 y.0 z) (reads d c y.1))
+triple_is g a b c d ts = made_row (λ p. g p.0 p.1.0 p.1.1) (reads d a ts) (λ q. row (reads d b q) (λ s. reads d c s)) ∙ (λ i. reads d a ts >>= λ x. made_row (λ p. g x.0 p.0 p.1) (reads d b x.1) (λ s. reads d c s) i)
+
 -- a front, and what takes it in
 pub then_is : {A B : Type 0} (a : C A) (f : C (A → B)) (d : ℕ) (ts : List Tok) → reads d (then_ a f) ts ≡ (reads d a ts >>= λ x. applied x.0 (reads d f x.1))
 then_is a f d ts = made_row (λ p. p.1 p.0) (reads d a ts) (λ r. reads d f r)

@@ -8,6 +8,8 @@ mod blocks;
 mod delays;
 mod events;
 mod for_parts;
+mod front;
+mod heads;
 mod reader;
 mod whole;
 
