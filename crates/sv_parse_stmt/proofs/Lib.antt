@@ -5,3 +5,4 @@ pub mod EventLaws
 pub mod AssignmentLaws
 pub mod ForLaws
 pub mod HeadLaws
+pub mod SimpleLaws

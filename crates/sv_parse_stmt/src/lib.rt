@@ -11,6 +11,7 @@ mod for_parts;
 mod front;
 mod heads;
 mod reader;
+mod simple;
 mod whole;
 
 pub use blocks::{BlockItems, items};
