@@ -6,3 +6,10 @@ pub mod AssignmentLaws
 pub mod ForLaws
 pub mod HeadLaws
 pub mod SimpleLaws
+pub mod StmtLaws
+pub mod BlockLaws
+pub mod BlockParts
+pub mod CaseLaws
+pub mod FrontLaws
+pub mod InnerLaws
+pub mod UnnamedLaws

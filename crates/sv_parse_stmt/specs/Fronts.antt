@@ -21,6 +21,7 @@ use Rattle.sv_tree.specs.StmtGrammar.{BlockItem, Declared, Made}
 use Rattle.sv_tree.specs.Grammar.{reads}
 use Rattle.sv_parse.specs.Outcome.{Fails}
 use Rattle.sv_parse.specs.declared.tokens.ReadError.{ReadError}
+use Rattle.sv_parse_type.specs.Applied.{applied}
 use Rattle.sv_parse_stmt.specs.declared.front.Placed.{Placed as Form}
 use Rattle.sv_parse_stmt.specs.declared.front.Head.{Head}
 use Rattle.sv_parse_stmt.specs.declared.front.Head.TheVariants as head
@@ -68,12 +69,16 @@ case_ended at w e is = reads 0 (tok k.Endcase) is.1 >>= λ t. Ok (grammar.placed
 abbrev pub chosen_by : Place → tree.Expr → (tree.Expr → stmts.Body) × List Tok → Out Placed
 chosen_by at e f = Ok (grammar.placed at (f.0 e), f.1)
 
+-- a body that was read, at its place
+abbrev pub at_place : Place → Out stmts.Body → Out Placed
+at_place at o = o >>= λ b. Ok (grammar.placed at b.0, b.1)
+
 -- what is read of the rest
 abbrev pub remaining : ℕ → Front → Out Placed
 remaining d (front.Whole p rest) = Ok (placed p, toks rest.now)
 remaining d (front.Head at h rest) = reads d statement (toks rest.now) >>= headed d at h
 remaining d (front.Block b rest) = reads d (Rep statement) (toks rest.now) >>= block_ended b
-remaining d (front.If at e rest) = reads d grammar.if_rest (toks rest.now) >>= chosen_by at (expr e)
+remaining d (front.If at e rest) = at_place at (applied (expr e) (reads d grammar.if_rest (toks rest.now)))
 remaining d (front.Case at w e rest) = reads d (Rep grammar.case_item) (toks rest.now) >>= case_ended at w (expr e)
 
 -- all fails where a part fails, and is f of it where it is read
@@ -92,3 +97,8 @@ Remains d (front.Case at w e rest) all = Follows (case_ended at w (expr e)) (rea
 abbrev pub Begun : ℕ → Result Front ReadError → Out Placed → Type 0
 Begun d (Ok f) all = Remains d f all
 Begun d (Err e) all = Fails e all
+
+-- the front of a statement was read, and all is read with the rest; or reading it failed
+abbrev pub Fronts : ℕ → Result Front ReadError → Out Placed → Type 0
+Fronts d (Ok f) all = all ≡ remaining d f
+Fronts d (Err e) all = Fails e all

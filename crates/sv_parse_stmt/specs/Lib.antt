@@ -1,3 +1,4 @@
 pub mod Begins
 pub mod Blocks
 pub mod Fronts
+pub mod Statements

@@ -4,7 +4,9 @@
 #![tactic(auto)]
 
 mod assignments;
+mod begins;
 mod blocks;
+mod cases;
 mod delays;
 mod events;
 mod for_parts;
@@ -12,9 +14,10 @@ mod front;
 mod heads;
 mod reader;
 mod simple;
+mod unnamed;
 mod whole;
 
-pub use blocks::{BlockItems, items};
+pub use blocks::BlockItems;
 pub use delays::{Delays, amount};
-pub use reader::statement;
+pub use reader::{items, statement};
 pub use whole::stmt;
