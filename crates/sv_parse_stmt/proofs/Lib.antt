@@ -13,3 +13,4 @@ pub mod CaseLaws
 pub mod FrontLaws
 pub mod InnerLaws
 pub mod UnnamedLaws
+pub mod Exact

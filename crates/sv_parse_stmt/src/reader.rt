@@ -40,7 +40,7 @@ pub fn statement<'a>(alloc: Global, tokens: &'a [Token], budget: Budget) -> Read
 /// A form of its front and of what is left to be read.
 #[cycle(stmt)]
 fn completed<'a>(alloc: Global, front: Front<'a>, budget: Budget) -> Read<'a, Placed>
-    ensures { Gives (λ x. (placed x.0, toks x.1.now)) result (remaining budget front) }
+    ensures { Gives (λ x. (placed x.0, toks x.1.now)) result (remaining budget front.entry) }
 {
     match front {
         Front::Whole(form, rest) => Ok((form, rest)),

@@ -11,8 +11,14 @@ use Rattle.sv_parse.proofs.Loops.{loop_ends, loop_goes_on, loop_shorter}
 use Rattle.sv_parse_stmt.specs.Begins.{case_item_first, stmt_first}
 use Rattle.sv_parse_stmt.proofs.BlockLaws.{stmts_loop}
 use Rattle.sv_parse_stmt.proofs.CaseLaws.{items_loop}
+use Rattle.sv_parse_stmt.proofs.InnerLaws.{inner_stmt}
 use Rattle.sv_parse_stmt.proofs.KindLaws.{reach_one}
 use Rattle.sv_parse_stmt.proofs.reader.+stmt.Goals as goal
+
+pub statement-returns-in_err-label : goal.statement-returns-in_err-label
+statement-returns-in_err-label t c =
+    let p = err_from_is_err_and c.from_residual.result c.from_residual.ensures.1 in
+    rw (p.1, p.2, inner_stmt c.in-Ok.inner c.args.budget (toks c.args.tokens.now) c.in-Ok.ensures.0) (c.in_err-label.ensures c.in-Ok.inner)
 
 pub statements-stmts-preserved : goal.statements-stmts-preserved
 statements-stmts-preserved t c = loop_goes_on statement stmt_first 1 stmts_loop c.args.budget (map stmt c.stmts.list.items) (map stmt c.push.new.self.items) (toks c.stmts.rest.now) (stmt c.in_ok-item.item, toks c.in_ok-item.after.now) (reads c.args.budget (Rep statement) (toks c.args.tokens.now)) (search rules) (reach_one c.args.budget (omega arith)) c.in_ok-item.ensures (rw c.in_ok-push.ensures.items (map_push stmt c.stmts.list.items c.in_ok-item.item)) c.stmts.invariant
