@@ -14,6 +14,8 @@ mod front;
 mod heads;
 mod reader;
 mod simple;
+#[cfg(test)]
+mod tests;
 mod unnamed;
 mod whole;
 
