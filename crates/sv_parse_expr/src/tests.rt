@@ -5,7 +5,7 @@ use std::process::Abort;
 use std::test::Fail;
 use sv_parse::{Budget, Part, Read, SyntaxFault, SyntaxKind};
 use sv_tree::{BinaryWord, Expr, Kind, MOST_DEPTH, SIGNS, Token, WORDS};
-use sv_value::{Place, Text};
+use sv_value::{Excerpt, NoMemory, Place};
 
 /// The kind of a word of the tables, or a name.
 fn kind_of(word: &str) -> Kind {
@@ -27,24 +27,24 @@ fn tokens(alloc: Global, text: &str) -> Result<Vec<Token>, Fail> {
     let mut list = Vec::new(alloc);
     let mut col: u32 = 1;
     for word in text.split(' ') {
-        list.push(token(alloc, kind_of(word), col))?;
+        list.push(token(alloc, kind_of(word), col)?)?;
         col = col.saturating_add(1);
     }
-    list.push(token(alloc, Kind::EndOfText, col))?;
+    list.push(token(alloc, Kind::EndOfText, col)?)?;
     Ok(list)
 }
 
 /// A token in line 1.
-fn token(alloc: Global, kind: Kind, col: u32) -> Token {
-    Token {
+fn token(alloc: Global, kind: Kind, col: u32) -> Result<Token, NoMemory> {
+    Ok(Token {
         kind,
         at: Place {
             file: 0,
             line: 1,
             col,
         },
-        text: Text::new(alloc),
-    }
+        text: Excerpt::new(alloc, b"")?,
+    })
 }
 
 /// Where an expression ends, or the kind and the column of the fault.

@@ -150,7 +150,7 @@ pub fn named_rest<'a>(
 ) -> Read<'a, Body>
     ensures { Gives (λ x. (view.body x.0, toks x.1.now)) result (applied first (reads budget grammar.named_rest (toks tokens.now))) }
 {
-    let (second, rest) = scope(alloc, tokens)?;
+    let (second, rest) = scope(tokens)?;
     let (list, rest) = suffixes(alloc, rest, budget)?;
     post_end(alloc, named_root(first, second), list, rest, budget)
 }

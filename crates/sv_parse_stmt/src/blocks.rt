@@ -36,7 +36,7 @@ fn declaration<'a>(alloc: Global, tokens: &'a [Token], budget: Budget) -> Read<'
     if begins_word_decl(tokens) {
         return word_decl(alloc, tokens, budget);
     }
-    let (first, rest) = name(alloc, tokens)?;
+    let (first, rest) = name(tokens)?;
     named_decl_rest(alloc, first, rest, budget)
 }
 
@@ -94,7 +94,7 @@ pub fn block<'a>(alloc: Global, tokens: &'a [Token], budget: Budget) -> ReadFron
     ensures { Begun budget result (reads budget grammar.block (toks tokens.now)) }
 {
     let (word, rest) = expect(tokens, Kind::Begin)?;
-    let (name, rest) = label(alloc, rest)?;
+    let (name, rest) = label(rest)?;
     let (decls, rest) = opening(alloc, rest, budget)?;
     let head = BlockHead {
         at: word.at,
@@ -111,7 +111,7 @@ pub fn fork<'a>(alloc: Global, tokens: &'a [Token], budget: Budget) -> ReadFront
     ensures { Begun budget result (reads budget grammar.fork (toks tokens.now)) }
 {
     let (word, rest) = expect(tokens, Kind::Fork)?;
-    let (name, rest) = label(alloc, rest)?;
+    let (name, rest) = label(rest)?;
     let (decls, rest) = opening(alloc, rest, budget)?;
     let head = BlockHead {
         at: word.at,
@@ -157,12 +157,7 @@ fn fork_of(
 
 /// A block of this head and these statements: `"end" [":" id]` ends it, or `("join" | "join_any" | "join_none") [":" id]`.
 #[tactic(auto, using(crate::proofs::BlockParts::decls_of_items, crate::proofs::BlockParts::stmts_of_items))]
-pub fn block_end<'a>(
-    alloc: Global,
-    head: BlockHead,
-    stmts: Vec<Stmt>,
-    tokens: &'a [Token],
-) -> Read<'a, Placed>
+pub fn block_end<'a>(head: BlockHead, stmts: Vec<Stmt>, tokens: &'a [Token]) -> Read<'a, Placed>
     ensures { Gives (λ x. (placed x.0, toks x.1.now)) result (block_ended head (map view.stmt stmts.items, toks tokens.now)) }
 {
     let BlockHead {
@@ -174,13 +169,13 @@ pub fn block_end<'a>(
     match word {
         BlockWord::Begin => {
             let (_, rest) = expect(tokens, Kind::End)?;
-            let (label, rest) = label(alloc, rest)?;
+            let (label, rest) = label(rest)?;
             let body = block_of(name, decls, stmts, label);
             Ok((Placed { at, body }, rest))
         }
         BlockWord::Fork => {
             let ((_, join), rest) = expect_word::<JoinWord>(tokens)?;
-            let (label, rest) = label(alloc, rest)?;
+            let (label, rest) = label(rest)?;
             let body = fork_of(name, decls, stmts, join, label);
             Ok((Placed { at, body }, rest))
         }

@@ -32,10 +32,10 @@ pub fn cycles_amount<'a>(alloc: Global, tokens: &'a [Token], budget: Budget) -> 
 {
     if is_next(tokens, Kind::Number) {
         let (token, rest) = expect(tokens, Kind::Number)?;
-        return Ok((Expr::Number(token.at, token.text.copy(alloc)?), rest));
+        return Ok((Expr::Number(token.at, token.text.share()?), rest));
     }
     if is_next(tokens, Kind::Name) {
-        let (name, rest) = name(alloc, tokens)?;
+        let (name, rest) = name(tokens)?;
         return Ok((post_of(Root::Plain(name), Vec::new(alloc)), rest));
     }
     enclosed(alloc, tokens, budget)
@@ -48,7 +48,7 @@ pub fn amount<'a>(alloc: Global, tokens: &'a [Token], budget: Budget) -> Read<'a
 {
     if is_next(tokens, Kind::TimeLiteral) {
         let (token, rest) = expect(tokens, Kind::TimeLiteral)?;
-        return Ok((Expr::Time(token.at, token.text.copy(alloc)?), rest));
+        return Ok((Expr::Time(token.at, token.text.share()?), rest));
     }
     cycles_amount(alloc, tokens, budget)
 }

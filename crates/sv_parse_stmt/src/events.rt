@@ -119,7 +119,7 @@ pub fn event<'a>(alloc: Global, tokens: &'a [Token], budget: Budget) -> Read<'a,
     ensures { Reads view.event budget grammar.event tokens.now result }
 {
     if is_next(tokens, Kind::Name) {
-        let (name, rest) = name(alloc, tokens)?;
+        let (name, rest) = name(tokens)?;
         return Ok((Event::Named(name), rest));
     }
     if is_next(tokens, Kind::Star) {

@@ -116,12 +116,12 @@ fn for_init_rest<'a>(
     ensures { Gives (λ x. (view.for_init x.0, toks x.1.now)) result (applied first (reads budget grammar.for_init_rest (toks tokens.now))) }
 {
     if is_next(tokens, Kind::Name) {
-        let (name, rest) = name(alloc, tokens)?;
+        let (name, rest) = name(tokens)?;
         let (value, rest) = Values::read(alloc, rest, budget)?;
         let of = WrittenType::Named(first);
         return Ok((ForInit::Declare { of, name, value }, rest));
     }
-    let (second, rest) = scope(alloc, tokens)?;
+    let (second, rest) = scope(tokens)?;
     let (list, rest) = suffixes(alloc, rest, budget)?;
     let (value, rest) = Values::read(alloc, rest, budget)?;
     let target = Lval::Post(named_root(first, second), list);
@@ -134,12 +134,12 @@ pub fn for_init<'a>(alloc: Global, tokens: &'a [Token], budget: Budget) -> Read<
     ensures { Reads view.for_init budget grammar.for_init tokens.now result }
 {
     if is_next(tokens, Kind::Name) {
-        let (name, rest) = name(alloc, tokens)?;
+        let (name, rest) = name(tokens)?;
         return for_init_rest(alloc, name, rest, budget);
     }
     if begins_word_type(tokens) {
         let (of, rest) = word_type(alloc, tokens, budget)?;
-        let (name, rest) = name(alloc, rest)?;
+        let (name, rest) = name(rest)?;
         let (value, rest) = Values::read(alloc, rest, budget)?;
         return Ok((ForInit::Declare { of, name, value }, rest));
     }

@@ -78,14 +78,14 @@ pub fn forever<'a>(tokens: &'a [Token]) -> ReadFront<'a>
 
 /// `"foreach" "(" id "[" id "]" ")"`
 #[tactic(auto, unfolding(sv_tree::specs::StmtGrammar::foreach))]
-pub fn foreach<'a>(alloc: Global, tokens: &'a [Token]) -> ReadFront<'a>
+pub fn foreach<'a>(tokens: &'a [Token]) -> ReadFront<'a>
     ensures { (d : ℕ) → Begun d result (reads d grammar.foreach (toks tokens.now)) }
 {
     let (word, rest) = expect(tokens, Kind::Foreach)?;
     let (_, rest) = expect(rest, Kind::LeftParenthesis)?;
-    let (array, rest) = name(alloc, rest)?;
+    let (array, rest) = name(rest)?;
     let (_, rest) = expect(rest, Kind::LeftBracket)?;
-    let (index, rest) = name(alloc, rest)?;
+    let (index, rest) = name(rest)?;
     let (_, rest) = expect(rest, Kind::RightBracket)?;
     let (_, rest) = expect(rest, Kind::RightParenthesis)?;
     Ok(Front::Head(word.at, Head::Foreach { array, index }, rest))

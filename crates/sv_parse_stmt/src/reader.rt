@@ -31,7 +31,7 @@ pub fn statement<'a>(alloc: Global, tokens: &'a [Token], budget: Budget) -> Read
     let Ok(inner) = budget.deeper(tokens) else {
         return Err(ReadError::Unexpected(tokens));
     };
-    let (label, rest) = stmt_label(alloc, tokens)?;
+    let (label, rest) = stmt_label(tokens)?;
     let front = body_front(alloc, rest, inner)?;
     let (Placed { at, body }, rest) = completed(alloc, front, inner)?;
     Ok((Stmt { at, label, body }, rest))
@@ -50,7 +50,7 @@ fn completed<'a>(alloc: Global, front: Front<'a>, budget: Budget) -> Read<'a, Pl
         }
         Front::Block(head, rest) => {
             let (stmts, rest) = statements(alloc, rest, budget)?;
-            block_end(alloc, head, stmts, rest)
+            block_end(head, stmts, rest)
         }
         Front::If(at, condition, rest) => {
             let (body, rest) = if_rest(alloc, condition, rest, budget)?;

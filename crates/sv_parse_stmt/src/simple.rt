@@ -129,7 +129,7 @@ pub fn system_statement<'a>(alloc: Global, tokens: &'a [Token], budget: Budget) 
     ensures { Begun budget result (reads budget grammar.system_statement (toks tokens.now)) }
 {
     let (word, rest) = expect(tokens, Kind::SystemName)?;
-    let name = name_of(alloc, word)?;
+    let name = name_of(word)?;
     let (actuals, rest) = maybe_actuals(alloc, rest, budget)?;
     let (_, rest) = expect(rest, Kind::Semicolon)?;
     let form = Placed {
@@ -166,7 +166,7 @@ pub fn super_statement<'a>(alloc: Global, tokens: &'a [Token], budget: Budget) -
         let body = Body::Call(Expr::SuperNew { at, new, actuals });
         return Ok(Front::Whole(Placed { at, body }, rest));
     }
-    let (name, rest) = name(alloc, rest)?;
+    let (name, rest) = name(rest)?;
     let (list, rest) = suffixes(alloc, rest, budget)?;
     let (body, rest) = post_end(alloc, Root::Super(at, name), list, rest, budget)?;
     Ok(Front::Whole(Placed { at, body }, rest))

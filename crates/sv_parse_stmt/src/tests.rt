@@ -5,7 +5,7 @@ use std::process::Abort;
 use std::test::Fail;
 use sv_parse::{SyntaxFault, SyntaxKind};
 use sv_tree::{Body, JoinWord, Kind, Stmt, Token};
-use sv_value::{Place, Text};
+use sv_value::{Excerpt, Place};
 
 /// Tokens of these kinds, and the end of the text, in the columns from 1 on.
 fn tokens(alloc: Global, kinds: &[Kind]) -> Result<Vec<Token>, Fail> {
@@ -23,7 +23,7 @@ fn tokens(alloc: Global, kinds: &[Kind]) -> Result<Vec<Token>, Fail> {
         list.push(Token {
             kind: *kind,
             at,
-            text: Text::new(alloc),
+            text: Excerpt::new(alloc, b"")?,
         })?;
     }
     Ok(list)

@@ -50,7 +50,7 @@ fn holder<'a>(alloc: Global, tokens: &'a [Token], budget: Budget) -> ReadFront<'
         return forever(tokens);
     }
     if is_next(tokens, Kind::Foreach) {
-        return foreach(alloc, tokens);
+        return foreach(tokens);
     }
     if is_next(tokens, Kind::Hash) {
         return after(alloc, tokens, budget);
@@ -125,7 +125,7 @@ pub fn body_front<'a>(alloc: Global, tokens: &'a [Token], budget: Budget) -> Rea
 {
     if is_next(tokens, Kind::Name) {
         let (first, rest) = expect(tokens, Kind::Name)?;
-        let name = name_of(alloc, first)?;
+        let name = name_of(first)?;
         let (body, rest) = named_rest(alloc, name, rest, budget)?;
         let at = first.at;
         return Ok(Front::Whole(Placed { at, body }, rest));
@@ -136,7 +136,7 @@ pub fn body_front<'a>(alloc: Global, tokens: &'a [Token], budget: Budget) -> Rea
 
 /// `[id ":"]`: the label of a statement
 #[tactic(auto, using(crate::proofs::StmtLaws::stmt_labelled, crate::proofs::StmtLaws::stmt_plain))]
-pub fn stmt_label<'a>(alloc: Global, tokens: &'a [Token]) -> Read<'a, Option<Name>>
+pub fn stmt_label<'a>(tokens: &'a [Token]) -> Read<'a, Option<Name>>
     ensures { Labels result (toks tokens.now) }
 {
     if !are_next(tokens, Kind::Name, Kind::Colon) {
@@ -144,5 +144,5 @@ pub fn stmt_label<'a>(alloc: Global, tokens: &'a [Token]) -> Read<'a, Option<Nam
     }
     let (first, rest) = expect(tokens, Kind::Name)?;
     let (_, rest) = expect(rest, Kind::Colon)?;
-    Ok((Some(name_of(alloc, first)?), rest))
+    Ok((Some(name_of(first)?), rest))
 }
