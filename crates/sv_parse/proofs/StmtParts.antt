@@ -18,11 +18,11 @@ use Rattle.sv_parse.proofs.ExprParts.{expr_known}
 -- what is known of a production is known of a part
 pub part_known : {A : Type 0} (c : C A) (first : List ℕ) → IsSealed c first false 0 → mem 0 first ≡ false → IsKnown c first
 part_known c first is some = record {
-    passes = is.passes;
-    begins = ap (λ (i : Info). i.first) is.info_is;
-    some = ap (λ (i : Info). i.null) is.info_is;
-    kinds = some;
-    low = is.low_is;
+  passes = is.passes;
+  begins = ap (λ (i : Info). i.first) is.info_is;
+  some = ap (λ (i : Info). i.null) is.info_is;
+  kinds = some;
+  low = is.low_is;
 }
 
 pub delay_known : IsKnown delay (code k.Hash ∷ [])
@@ -30,11 +30,11 @@ delay_known = part_known delay (code k.Hash ∷ []) known.delay_known refl
 
 pub condition_known : IsKnown (k.Iff ▸ expr) (code k.Iff ∷ [])
 condition_known = record {
-    passes = rw expr_known.passes refl;
-    begins = refl;
-    some = refl;
-    kinds = refl;
-    low = expr_known.low;
+  passes = rw expr_known.passes refl;
+  begins = refl;
+  some = refl;
+  kinds = refl;
+  low = expr_known.low;
 }
 
 pub next_event_part_known : IsKnown next_event_part (code k.Or ∷ code k.Comma ∷ [])
