@@ -23,7 +23,7 @@ pub fn name_of(token: &Token) -> Result<Name, NoMemory>
 }
 
 /// `id`, and the tokens after it.
-pub fn name<'a>(alloc: Global, tokens: &'a [Token]) -> Read<'a, Name>
+pub fn name(tokens: &[Token]) -> Read<Name>
     ensures { Gives (λ x. (x.0, toks x.1.now)) result (reads 0 forms.name (toks tokens.now)) }
 {
     let (token, rest) = expect(tokens, Kind::Name)?;
@@ -31,14 +31,14 @@ pub fn name<'a>(alloc: Global, tokens: &'a [Token]) -> Read<'a, Name>
 }
 
 /// `[":" id]`, and the tokens after it.
-pub fn label<'a>(alloc: Global, tokens: &'a [Token]) -> Read<'a, Option<Name>>
+pub fn label(tokens: &[Token]) -> Read<Option<Name>>
     ensures { Gives (λ x. (x.0, toks x.1.now)) result (reads 0 forms.label (toks tokens.now)) }
 {
     if !is_next(tokens, Kind::Colon) {
         return Ok((None, tokens));
     }
     let (_, rest) = expect(tokens, Kind::Colon)?;
-    let (name, rest) = name(alloc, rest)?;
+    let (name, rest) = name(rest)?;
     Ok((Some(name), rest))
 }
 
@@ -60,8 +60,8 @@ impl Part for Names {
         kind == Kind::Name
     }
 
-    fn read<'a>(alloc: Global, tokens: &'a [Token], _budget: Budget) -> Read<'a, Name> {
-        name(alloc, tokens)
+    fn read<'a>(_alloc: Global, tokens: &'a [Token], _budget: Budget) -> Read<'a, Name> {
+        name(tokens)
     }
 
     ghost is_known = { record { passes = refl; begins = refl; some = refl; kinds = refl; low = refl } };

@@ -46,7 +46,7 @@ fn words_and_labels(rt: HostRuntime) -> Result<(), Fail> {
     assert_eq!(rt; step, StepWord::Increment);
     let (skipped, rest) = skip(rest, Kind::Comma);
     assert_eq!(rt; skipped, false);
-    let (name, rest) = label(rt.alloc(), rest).map_err(|e| fault_of(e))?;
+    let (name, rest) = label(rest).map_err(|e| fault_of(e))?;
     assert_eq!(rt; name.is_some(), true);
     counts(&rt, rest.len(), 0);
     Ok(())

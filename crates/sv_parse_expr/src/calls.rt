@@ -24,7 +24,7 @@ pub fn system_call<'a>(alloc: Global, tokens: &'a [Token], budget: Budget) -> Re
     ensures { Reads view.expr budget grammar.system_call tokens.now result }
 {
     let (token, rest) = expect(tokens, Kind::SystemName)?;
-    let name = name_of(alloc, token)?;
+    let name = name_of(token)?;
     let (actuals, rest) = maybe_actuals(alloc, rest, budget)?;
     Ok((Expr::System(name, actuals), rest))
 }

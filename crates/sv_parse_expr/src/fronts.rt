@@ -51,12 +51,12 @@ pub enum Front {
 
 /// A number, or one that is the width of a cast.
 #[tactic(auto, using(crate::proofs::Known::cast_low, crate::proofs::Budgets::reach_one), unfolding(sv_tree::specs::ExprGrammar::number, sv_tree::specs::ExprGrammar::cast))]
-fn number<'a>(alloc: Global, tokens: &'a [Token], budget: Budget) -> Read<'a, Front>
+fn number(tokens: &[Token], budget: Budget) -> Read<Front>
     ensures reads { Begun budget result (reads budget grammar.number (toks tokens.now)) }
     ensures fits { IfOk result (λ x. Fits budget x.0) }
 {
     let (token, rest) = expect(tokens, Kind::Number)?;
-    let text = token.text.copy(alloc)?;
+    let text = token.text.share()?;
     if !is_next(rest, Kind::Apostrophe) {
         return Ok((Front::Whole(Expr::Number(token.at, text)), rest));
     }
@@ -71,13 +71,13 @@ fn number<'a>(alloc: Global, tokens: &'a [Token], budget: Budget) -> Read<'a, Fr
 
 /// A name, before a cast or what may follow it.
 #[tactic(auto, using(crate::proofs::Known::cast_low, crate::proofs::Known::post_rest_low, crate::proofs::Budgets::reach_one), unfolding(sv_tree::specs::ExprGrammar::named, sv_tree::specs::ExprGrammar::cast, sv_tree::specs::ExprGrammar::post_rest, sv_tree::specs::ExprGrammar::suffixes))]
-fn named<'a>(alloc: Global, tokens: &'a [Token], budget: Budget) -> Read<'a, Front>
+fn named(tokens: &[Token], budget: Budget) -> Read<Front>
     ensures reads { Begun budget result (reads budget grammar.named (toks tokens.now)) }
     ensures fits { IfOk result (λ x. Fits budget x.0) }
 {
-    let (first, rest) = name(alloc, tokens)?;
+    let (first, rest) = name(tokens)?;
     if !is_next(rest, Kind::Apostrophe) {
-        let (second, rest) = scope(alloc, rest)?;
+        let (second, rest) = scope(rest)?;
         return Ok((Front::Post(named_root(first, second)), rest));
     }
     let inner = budget.deeper(rest)?;
@@ -125,25 +125,25 @@ fn this(tokens: &[Token]) -> Read<Front>
 
 /// A system name, before its arguments.
 #[tactic(auto, unfolding(sv_tree::specs::ExprGrammar::system_call))]
-fn system(alloc: Global, tokens: &[Token]) -> Read<Front>
+fn system(tokens: &[Token]) -> Read<Front>
     ensures reads { (d : ℕ) → Begun d result (reads d grammar.system_call (toks tokens.now)) }
     ensures fits { (d : ℕ) → IfOk result (λ x. Fits d x.0) }
 {
     let (token, rest) = expect(tokens, Kind::SystemName)?;
-    let name = name_of(alloc, token)?;
+    let name = name_of(token)?;
     Ok((Front::Call(Callee::System(name)), rest))
 }
 
 /// `super`, before a member or the constructor of the base class.
 #[tactic(auto, unfolding(sv_tree::specs::ExprGrammar::super_call, sv_tree::specs::ExprGrammar::suffixes))]
-fn super_call(alloc: Global, tokens: &[Token]) -> Read<Front>
+fn super_call(tokens: &[Token]) -> Read<Front>
     ensures reads { (d : ℕ) → Begun d result (reads d grammar.super_call (toks tokens.now)) }
     ensures fits { (d : ℕ) → IfOk result (λ x. Fits d x.0) }
 {
     let (word, rest) = expect(tokens, Kind::Super)?;
     let (_, rest) = expect(rest, Kind::Dot)?;
     if !is_next(rest, Kind::New) {
-        let (member, rest) = name(alloc, rest)?;
+        let (member, rest) = name(rest)?;
         return Ok((Front::Post(Root::Super(word.at, member)), rest));
     }
     let (new, rest) = expect(rest, Kind::New)?;
@@ -156,23 +156,23 @@ fn super_call(alloc: Global, tokens: &[Token]) -> Read<Front>
 
 /// A time.
 #[tactic(auto, unfolding(sv_tree::specs::ExprGrammar::time))]
-fn time(alloc: Global, tokens: &[Token]) -> Read<Front>
+fn time(tokens: &[Token]) -> Read<Front>
     ensures reads { (d : ℕ) → Begun d result (reads d grammar.time (toks tokens.now)) }
     ensures fits { (d : ℕ) → IfOk result (λ x. Fits d x.0) }
 {
     let (token, rest) = expect(tokens, Kind::TimeLiteral)?;
-    let text = token.text.copy(alloc)?;
+    let text = token.text.share()?;
     Ok((Front::Whole(Expr::Time(token.at, text)), rest))
 }
 
 /// A string literal.
 #[tactic(auto, unfolding(sv_tree::specs::ExprGrammar::text))]
-fn text(alloc: Global, tokens: &[Token]) -> Read<Front>
+fn text(tokens: &[Token]) -> Read<Front>
     ensures reads { (d : ℕ) → Begun d result (reads d grammar.text (toks tokens.now)) }
     ensures fits { (d : ℕ) → IfOk result (λ x. Fits d x.0) }
 {
     let (token, rest) = expect(tokens, Kind::StringLiteral)?;
-    let text = token.text.copy(alloc)?;
+    let text = token.text.share()?;
     Ok((Front::Whole(Expr::Text(token.at, text)), rest))
 }
 
@@ -198,7 +198,7 @@ fn dollar(tokens: &[Token]) -> Read<Front>
 
 /// The part of an operand before its first expression.
 #[tactic(auto, using(crate::proofs::Prims::prim_number, crate::proofs::Prims::prim_time, crate::proofs::Prims::prim_text, crate::proofs::Prims::prim_null, crate::proofs::Prims::prim_dollar, crate::proofs::Prims::prim_named, crate::proofs::Prims::prim_this, crate::proofs::Prims::prim_super, crate::proofs::Prims::prim_system, crate::proofs::Prims::prim_group, crate::proofs::Prims::prim_braces, crate::proofs::Prims::prim_cast, crate::proofs::Prims::deep_group, crate::proofs::Prims::deep_braces, crate::proofs::Prims::deep_cast, crate::proofs::Prims::prim_none))]
-pub fn operand<'a>(alloc: Global, tokens: &'a [Token], budget: Budget) -> Read<'a, Front>
+pub fn operand(tokens: &[Token], budget: Budget) -> Read<Front>
     ensures reads { Begun budget result (reads budget grammar.prim (toks tokens.now)) }
     ensures fits { IfOk result (λ x. Fits budget x.0) }
 {
@@ -207,13 +207,13 @@ pub fn operand<'a>(alloc: Global, tokens: &'a [Token], budget: Budget) -> Read<'
         return word(tokens, inner);
     }
     if is_next(tokens, Kind::Number) {
-        return number(alloc, tokens, budget);
+        return number(tokens, budget);
     }
     if is_next(tokens, Kind::TimeLiteral) {
-        return time(alloc, tokens);
+        return time(tokens);
     }
     if is_next(tokens, Kind::StringLiteral) {
-        return text(alloc, tokens);
+        return text(tokens);
     }
     if is_next(tokens, Kind::Null) {
         return null(tokens);
@@ -222,16 +222,16 @@ pub fn operand<'a>(alloc: Global, tokens: &'a [Token], budget: Budget) -> Read<'
         return dollar(tokens);
     }
     if is_next(tokens, Kind::Name) {
-        return named(alloc, tokens, budget);
+        return named(tokens, budget);
     }
     if is_next(tokens, Kind::This) {
         return this(tokens);
     }
     if is_next(tokens, Kind::Super) {
-        return super_call(alloc, tokens);
+        return super_call(tokens);
     }
     if is_next(tokens, Kind::SystemName) {
-        return system(alloc, tokens);
+        return system(tokens);
     }
     if is_next(tokens, Kind::LeftParenthesis) {
         let inner = budget.deeper(tokens)?;

@@ -19,6 +19,8 @@ mod parts;
 mod posts;
 mod reader;
 mod target;
+#[cfg(test)]
+mod tests;
 mod values;
 mod whole;
 

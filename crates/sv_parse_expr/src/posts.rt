@@ -20,14 +20,14 @@ pub struct Post {
 }
 
 /// `["::" id]`, and the tokens after it.
-pub fn scope<'a>(alloc: Global, tokens: &'a [Token]) -> Read<'a, Option<Name>>
+pub fn scope(tokens: &[Token]) -> Read<Option<Name>>
     ensures { Gives (λ x. (x.0, toks x.1.now)) result (reads 0 scoped (toks tokens.now)) }
 {
     if !is_next(tokens, Kind::ColonColon) {
         return Ok((None, tokens));
     }
     let (_, rest) = expect(tokens, Kind::ColonColon)?;
-    let (second, rest) = name(alloc, rest)?;
+    let (second, rest) = name(rest)?;
     Ok((Some(second), rest))
 }
 
@@ -54,8 +54,8 @@ pub fn suffixes<'a>(alloc: Global, tokens: &'a [Token], budget: Budget) -> Read<
 pub fn named_post<'a>(alloc: Global, tokens: &'a [Token], budget: Budget) -> Read<'a, Post>
     ensures { Reads views.post budget grammar.named_post tokens.now result }
 {
-    let (first, rest) = name(alloc, tokens)?;
-    let (second, rest) = scope(alloc, rest)?;
+    let (first, rest) = name(tokens)?;
+    let (second, rest) = scope(rest)?;
     let root = named_root(first, second);
     let (suffixes, rest) = suffixes(alloc, rest, budget)?;
     Ok((Post { root, suffixes }, rest))
@@ -79,7 +79,7 @@ pub fn super_post<'a>(alloc: Global, tokens: &'a [Token], budget: Budget) -> Rea
 {
     let (word, rest) = expect(tokens, Kind::Super)?;
     let (_, rest) = expect(rest, Kind::Dot)?;
-    let (member, rest) = name(alloc, rest)?;
+    let (member, rest) = name(rest)?;
     let root = Root::Super(word.at, member);
     let (suffixes, rest) = suffixes(alloc, rest, budget)?;
     Ok((Post { root, suffixes }, rest))

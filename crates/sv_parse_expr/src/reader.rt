@@ -190,7 +190,7 @@ fn suffix<'a>(alloc: Global, tokens: &'a [Token], budget: Budget) -> Read<'a, Me
 {
     if is_next(tokens, Kind::Dot) {
         let (_, rest) = expect(tokens, Kind::Dot)?;
-        let (member, rest) = name(alloc, rest)?;
+        let (member, rest) = name(rest)?;
         return Ok((
             Measured {
                 tree: Suffix::Member(member),
@@ -306,7 +306,7 @@ pub fn prim<'a>(alloc: Global, tokens: &'a [Token], budget: Budget) -> Read<'a, 
     ensures reads { Reads (measured view.expr) budget grammar.prim tokens.now result }
     ensures depth { IfOk result (λ x. Fitting budget x.0) }
 {
-    let (front, rest) = operand(alloc, tokens, budget)?;
+    let (front, rest) = operand(tokens, budget)?;
     match front {
         Front::Whole(tree) => Ok((Measured { tree, depth: 0 }, rest)),
         Front::Bracket(opening, inner) => {

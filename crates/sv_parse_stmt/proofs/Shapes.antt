@@ -1,16 +1,18 @@
 -- What reading gives of parts in a row, part by part.
-use Rattle.std.proofs.Common.{◌≡◌, ℕ, true, false, List, Ok, Err, refl, ◌∙◌}
+use Rattle.std.proofs.Common.{◌≡◌, ℕ, true, false, List, Ok, Err, refl, ap, ◌∙◌}
 use Rattle.sv_grammar.specs.Tokens.{Tok, next, mem}
-use Rattle.sv_grammar.specs.Language.{Out}
+use Rattle.sv_grammar.specs.Language.{Out, TooDeep}
 use Rattle.sv_grammar.specs.Reading.{◌>>=◌}
-use Rattle.sv_grammar.specs.Code.{info, least}
+use Rattle.sv_grammar.specs.Info.{Info}
+use Rattle.sv_grammar.specs.Code.{reach}
 use Rattle.sv_grammar.specs.Code.Code.{Alt}
-use Rattle.sv_tree.specs.Forms.{Production, Value, C, both, three, then_}
-use Rattle.sv_tree.specs.Grammar.{heads, need, reads}
-use Rattle.sv_parse_expr.specs.Outcome.{Fails}
-use Rattle.sv_parse_expr.specs.declared.reading.ReadError.{ReadError}
-use Rattle.sv_parse_expr.specs.declared.reading.ReadError.TheVariants as errors
-use Rattle.sv_parse_stmt.specs.Applied.{applied}
+use Rattle.sv_tree.specs.Forms.{C, pair, triple, then_}
+use Rattle.sv_tree.specs.Grammar.{reads}
+use Rattle.sv_tree.proofs.Known.{IsKnown}
+use Rattle.sv_parse.specs.Outcome.{Fails}
+use Rattle.sv_parse.specs.declared.tokens.ReadError.{ReadError}
+use Rattle.sv_parse.specs.declared.tokens.ReadError.TheVariants as errors
+use Rattle.sv_parse_type.specs.Applied.{applied}
 
 -- f of what was read
 abbrev pub made : {A B : Type 0} → (A → B) → Out A → Out B
@@ -49,37 +51,46 @@ applied_after r (Err m) f = refl
 -- where the first part fails, all fails
 pub fails_after : {A B : Type 0} (e : ReadError) (o : Out A) (f : A × List Tok → Out B) → Fails e o → Fails e (o >>= f)
 fails_after errors.Memory o f h = tt
-fails_after (errors.Deep rest) o f h = rw h refl
-fails_after (errors.Odd rest) o f h = rw h refl
+fails_after (errors.TooDeep rest) o f h = rw h refl
+fails_after (errors.Unexpected rest) o f h = rw h refl
 
 -- one after the other
-pub both_is : {A B D : Type 0} (g : A → B → D) (a : C A) (b : C B) (d : ℕ) (ts : List Tok) → reads d (both g a b) ts ≡ (reads d a ts >>= λ x. made (λ y. g x.0 y) (reads d b x.1))
-both_is g a b d ts = made_row (λ p. g p.0 p.1) (reads d a ts) (λ r. reads d b r)
+pub pair_is : {A B D : Type 0} (g : A → B → D) (a : C A) (b : C B) (d : ℕ) (ts : List Tok) → reads d (pair g a b) ts ≡ (reads d a ts >>= λ x. made (λ y. g x.0 y) (reads d b x.1))
+pair_is g a b d ts = made_row (λ p. g p.0 p.1) (reads d a ts) (λ r. reads d b r)
+
+-- three, one after the other
+pub triple_is : {A B D R : Type 0} (g : A → B → D → R) (a : C A) (b : C B) (c : C D) (d : ℕ) (ts : List Tok) → reads d (triple g a b c) ts ≡ (reads d a ts >>= λ x. reads d b x.1 >>= λ y. made (λ z. g x.0 y.0 z) (reads d c y.1))
+triple_is g a b c d ts = made_row (λ p. g p.0 p.1.0 p.1.1) (reads d a ts) (λ q. row (reads d b q) (λ s. reads d c s)) ∙ (λ i. reads d a ts >>= λ x. made_row (λ p. g x.0 p.0 p.1) (reads d b x.1) (λ s. reads d c s) i)
 
 -- a front, and what takes it in
 pub then_is : {A B : Type 0} (a : C A) (f : C (A → B)) (d : ℕ) (ts : List Tok) → reads d (then_ a f) ts ≡ (reads d a ts >>= λ x. applied x.0 (reads d f x.1))
 then_is a f d ts = made_row (λ p. p.1 p.0) (reads d a ts) (λ r. reads d f r)
 
 -- one after the other, that make a function
-pub both_applied : {A B R S : Type 0} (g : A → B → R → S) (r : R) (a : C A) (b : C B) (d : ℕ) (ts : List Tok)
-    → applied r (reads d (both g a b) ts) ≡ (reads d a ts >>= λ x. made (λ y. g x.0 y r) (reads d b x.1))
-both_applied g r a b d ts =
-    (λ i. applied r (both_is g a b d ts i)) ∙ applied_after r (reads d a ts) (λ x. made (λ y. g x.0 y) (reads d b x.1)) ∙ (λ i. reads d a ts >>= λ x. applied_made r (λ y. g x.0 y) (reads d b x.1) i)
+pub pair_applied : {A B R S : Type 0} (g : A → B → R → S) (r : R) (a : C A) (b : C B) (d : ℕ) (ts : List Tok)
+    → applied r (reads d (pair g a b) ts) ≡ (reads d a ts >>= λ x. made (λ y. g x.0 y r) (reads d b x.1))
+pair_applied g r a b d ts =
+    (λ i. applied r (pair_is g a b d ts i)) ∙ applied_after r (reads d a ts) (λ x. made (λ y. g x.0 y) (reads d b x.1)) ∙ (λ i. reads d a ts >>= λ x. applied_made r (λ y. g x.0 y) (reads d b x.1) i)
 
--- three in a row that make a function: after the first, two in a row
-pub three_applied : {A B D R S : Type 0} (g : A → B → D → R → S) (r : R) (a : C A) (b : C B) (c : C D) (d : ℕ) (ts : List Tok)
-    → applied r (reads d (three g a b c) ts) ≡ (reads d a ts >>= λ x. reads d (both (λ y z. g x.0 y z r) b c) x.1)
-three_applied g r a b c d ts =
+-- triple in a row that make a function: after the first, two in a row
+pub triple_applied : {A B D R S : Type 0} (g : A → B → D → R → S) (r : R) (a : C A) (b : C B) (c : C D) (d : ℕ) (ts : List Tok)
+    → applied r (reads d (triple g a b c) ts) ≡ (reads d a ts >>= λ x. reads d (pair (λ y z. g x.0 y z r) b c) x.1)
+triple_applied g r a b c d ts =
     (λ i. applied r (made_row (λ p. g p.0 p.1.0 p.1.1) (reads d a ts) (λ q. row (reads d b q) (λ s. reads d c s)) i))
     ∙ applied_after r (reads d a ts) (λ x. made (λ y. g x.0 y.0 y.1) (row (reads d b x.1) (λ s. reads d c s)))
     ∙ (λ i. reads d a ts >>= λ x. applied_made r (λ y. g x.0 y.0 y.1) (row (reads d b x.1) (λ s. reads d c s)) i)
 
 -- ---- choices
 
--- the first of two, where one of its kinds is next
-pub alt_first : {A : Type 0} (a b : C A) (ks : List ℕ) (d : ℕ) (ts : List Tok) → (info Production Value heads need a).first ≡ ks → least Production Value heads need a ≡ 0 → mem (next ts).code ks ≡ true → reads d (Alt a b) ts ≡ reads d a ts
-alt_first a b ks d ts is low h = rw (is, low, h) refl
+module _ {A : Type 0} (a b : C A) (d : ℕ) (ts : List Tok) where
+  -- the first of two, where one of its kinds is next
+  pub alt_first : (first : List ℕ) (low : ℕ) → IsKnown a first false low → mem (next ts).code first ≡ true → reach low d ≡ true → reads d (Alt a b) ts ≡ reads d a ts
+  alt_first first low known h fits = rw (ap (λ (i : Info). i.first) known.info_is, known.low_is, h, fits) refl
 
--- the second of two, where none of the kinds of the first is next
-pub alt_second : {A : Type 0} (a b : C A) (ks : List ℕ) (d : ℕ) (ts : List Tok) → (info Production Value heads need a).first ≡ ks → least Production Value heads need b ≡ 0 → mem (next ts).code ks ≡ false → reads d (Alt a b) ts ≡ reads d b ts
-alt_second a b ks d ts is low h = rw (is, low, h) refl
+  -- where trees of it are too deep
+  pub alt_deep : (first : List ℕ) (low : ℕ) → IsKnown a first false low → mem (next ts).code first ≡ true → reach low d ≡ false → reads d (Alt a b) ts ≡ Err (TooDeep ts)
+  alt_deep first low known h fits = rw (ap (λ (i : Info). i.first) known.info_is, known.low_is, h, fits) refl
+
+  -- the second of two, where none of the kinds of the first is next
+  pub alt_second : (first second : List ℕ) (low low2 : ℕ) → IsKnown a first false low → IsKnown b second false low2 → mem (next ts).code first ≡ false → reach low2 d ≡ true → reads d (Alt a b) ts ≡ reads d b ts
+  alt_second first second low low2 known known2 h fits = rw (ap (λ (i : Info). i.first) known.info_is, known2.low_is, h, fits) refl

@@ -1,6 +1,4 @@
-pub mod Casts
 pub mod Begins
-pub mod Applied
-pub mod Starts
+pub mod Blocks
 pub mod Fronts
-pub mod Items
+pub mod Statements

@@ -1,99 +1,120 @@
-// What begins with the next token.
-ghost use Rattle.std.specs.Prelude.{◌≡◌};
+// What comes next.
+ghost use Rattle.std.specs.Prelude.{◌≡◌, [], ◌∷◌, ◌&&◌, drop};
 ghost use Rattle.sv_grammar.specs.Tokens.{mem, next};
-ghost use Rattle.sv_grammar.specs.Reading.{one_of};
-ghost use Rattle.sv_tree.specs.Codes.{code, tok, toks};
-ghost use Rattle.sv_parse_expr.specs.Outcome.{Gives};
-ghost use Rattle.sv_parse_stmt.specs.Begins.{assign_first, lval_first, separators, type_first, word_type_first};
+ghost use Rattle.sv_tree.specs.Codes.{code, toks};
+ghost use Rattle.sv_tree.specs.Grammar.{named_first};
+ghost use Rattle.sv_parse_stmt.specs.Begins.{case_item_first, holder_first, is_decl, stmt_first};
 
-use sv_parse_expr::ReadError;
+use sv_parse::is_next;
+use sv_parse_expr::begins_expr;
+use sv_parse_type::begins_word_decl;
 use sv_tree::{Kind, Token};
 
-/// Whether a word begins a type.
-fn word_type_first(kind: Kind) -> bool
-    ensures { result ≡ mem (code kind) word_type_first }
-{
-    matches!(
-        kind,
-        Kind::Bit
-            | Kind::Logic
-            | Kind::Reg
-            | Kind::Byte
-            | Kind::Shortint
-            | Kind::Int
-            | Kind::Longint
-            | Kind::Integer
-            | Kind::Time
-            | Kind::String
-            | Kind::Event
-            | Kind::Semaphore
-            | Kind::Mailbox
-            | Kind::Enum
-    )
-}
-
-/// Whether a type that a word begins comes next.
-pub fn begins_word_type(tokens: &[Token]) -> bool
-    ensures { result ≡ mem (next (toks tokens.now)).code word_type_first }
+/// Whether a form that always holds a statement, or targets in braces, come next. None of these fits where nothing may stand inside.
+pub fn begins_holder(tokens: &[Token]) -> bool
+    ensures { result ≡ mem (next (toks tokens.now)).code holder_first }
 {
     match tokens {
         [] => false,
-        [first, ..] => word_type_first(first.kind),
+        [first, ..] => holder_first(first.kind),
     }
 }
 
-/// Whether a kind begins a type.
-fn type_first(kind: Kind) -> bool
-    ensures { result ≡ mem (code kind) type_first }
+/// Whether a kind begins a form that always holds a statement, or targets in braces.
+fn holder_first(kind: Kind) -> bool
+    ensures { result ≡ mem (code kind) holder_first }
+{
+    matches!(
+        kind,
+        Kind::If
+            | Kind::For
+            | Kind::While
+            | Kind::Do
+            | Kind::Repeat
+            | Kind::Forever
+            | Kind::Foreach
+            | Kind::Hash
+            | Kind::At
+            | Kind::HashHash
+            | Kind::LeftBrace
+    )
+}
+
+/// Whether a statement comes next.
+pub fn begins_stmt(tokens: &[Token]) -> bool
+    ensures { result ≡ mem (next (toks tokens.now)).code stmt_first }
+{
+    match tokens {
+        [] => false,
+        [first, ..] => stmt_first(first.kind),
+    }
+}
+
+/// Whether a kind begins a statement.
+fn stmt_first(kind: Kind) -> bool
+    ensures { result ≡ mem (code kind) stmt_first }
 {
     matches!(
         kind,
         Kind::Name
-            | Kind::Logic
-            | Kind::Bit
-            | Kind::Reg
-            | Kind::String
-            | Kind::Event
-            | Kind::Byte
-            | Kind::Shortint
-            | Kind::Int
-            | Kind::Longint
-            | Kind::Integer
-            | Kind::Time
-            | Kind::Semaphore
-            | Kind::Mailbox
-            | Kind::Enum
+            | Kind::SystemName
+            | Kind::Void
+            | Kind::Begin
+            | Kind::Fork
+            | Kind::If
+            | Kind::Case
+            | Kind::Casez
+            | Kind::Casex
+            | Kind::For
+            | Kind::While
+            | Kind::Do
+            | Kind::Repeat
+            | Kind::Forever
+            | Kind::Foreach
+            | Kind::Wait
+            | Kind::Disable
+            | Kind::Break
+            | Kind::Continue
+            | Kind::Return
+            | Kind::This
+            | Kind::Super
+            | Kind::Semicolon
+            | Kind::LeftBrace
+            | Kind::Hash
+            | Kind::HashHash
+            | Kind::At
+            | Kind::Arrow
+            | Kind::PlusPlus
+            | Kind::MinusMinus
     )
 }
 
-/// Whether a type comes next.
-pub fn begins_type(tokens: &[Token]) -> bool
-    ensures { result ≡ mem (next (toks tokens.now)).code type_first }
+/// Whether the next token may follow the name at the front of a statement.
+pub fn goes_on_named(tokens: &[Token]) -> bool
+    ensures { result ≡ mem (next (toks tokens.now)).code named_first }
 {
     match tokens {
         [] => false,
-        [first, ..] => type_first(first.kind),
+        [first, ..] => named_first(first.kind),
     }
 }
 
-/// Whether the end of an assignment comes next: what follows its target.
-pub fn begins_assignment(tokens: &[Token]) -> bool
-    ensures { result ≡ mem (next (toks tokens.now)).code assign_first }
-{
-    match tokens {
-        [] => false,
-        [first, ..] => assign_first(first.kind),
-    }
-}
-
-/// Whether a kind begins the end of an assignment.
-fn assign_first(kind: Kind) -> bool
-    ensures { result ≡ mem (code kind) assign_first }
+/// Whether a kind may follow the name at the front of a statement.
+fn named_first(kind: Kind) -> bool
+    ensures { result ≡ mem (code kind) named_first }
 {
     matches!(
         kind,
-        Kind::Equals
+        Kind::Semicolon
+            | Kind::Colon
+            | Kind::LeftParenthesis
+            | Kind::LeftBracket
+            | Kind::Dot
+            | Kind::ColonColon
+            | Kind::Equals
             | Kind::LessEquals
+            | Kind::PlusPlus
+            | Kind::MinusMinus
             | Kind::PlusEquals
             | Kind::MinusEquals
             | Kind::StarEquals
@@ -106,46 +127,34 @@ fn assign_first(kind: Kind) -> bool
             | Kind::ShiftRightEquals
             | Kind::ShiftLeftSignedEquals
             | Kind::ShiftRightSignedEquals
-            | Kind::PlusPlus
-            | Kind::MinusMinus
     )
 }
 
-/// Whether `or` or a comma comes next.
-pub fn is_separator(tokens: &[Token]) -> bool
-    ensures { result ≡ mem (next (toks tokens.now)).code separators }
+/// Whether an item of a `case` comes next.
+pub fn begins_case_item(tokens: &[Token]) -> bool
+    ensures { result ≡ mem (next (toks tokens.now)).code case_item_first }
+{
+    is_next(tokens, Kind::Default) || begins_expr(tokens)
+}
+
+/// Whether tokens of these two kinds come next.
+pub fn are_next(tokens: &[Token], first: Kind, second: Kind) -> bool
+    ensures { result ≡ (mem (next (toks tokens.now)).code (code first ∷ []) && mem (next (drop 1 (toks tokens.now))).code (code second ∷ [])) }
 {
     match tokens {
         [] => false,
-        [first, ..] => matches!(first.kind, Kind::Or | Kind::Comma),
-    }
-}
-
-/// `or` or a comma, and the tokens after it.
-pub fn separator(tokens: &[Token]) -> Result<(&Token, &[Token]), ReadError>
-    ensures { Gives (λ x. (tok x.0.now, toks x.1.now)) result (one_of separators (toks tokens.now)) }
-{
-    match tokens {
-        [] => Err(ReadError::Odd(tokens)),
-        [first, rest @ ..] => {
-            if matches!(first.kind, Kind::Or | Kind::Comma) {
-                Ok((first, rest))
-            } else {
-                Err(ReadError::Odd(tokens))
+        [_, rest @ ..] => {
+            if !is_next(tokens, first) {
+                return false;
             }
+            is_next(rest, second)
         }
     }
 }
 
-/// Whether a target comes next.
-pub fn begins_lval(tokens: &[Token]) -> bool
-    ensures { result ≡ mem (next (toks tokens.now)).code lval_first }
+/// Whether a declaration comes next: a word that begins one, or two names, of which the first is its type.
+pub fn begins_decl(tokens: &[Token]) -> bool
+    ensures { result ≡ is_decl (toks tokens.now) }
 {
-    match tokens {
-        [] => false,
-        [first, ..] => matches!(
-            first.kind,
-            Kind::Name | Kind::This | Kind::Super | Kind::LeftBrace
-        ),
-    }
+    begins_word_decl(tokens) || are_next(tokens, Kind::Name, Kind::Name)
 }

@@ -87,7 +87,7 @@ pub fn named_decl_rest<'a>(
 ) -> Read<'a, Decl>
     ensures { ReadsAfter view.decl of budget grammar.named_decl_rest tokens.now result }
 {
-    let (first, rest) = name(alloc, tokens)?;
+    let (first, rest) = name(tokens)?;
     let (names, rest) = more_declarators(alloc, first, rest, budget)?;
     let (_, rest) = expect(rest, Kind::Semicolon)?;
     let decl = Decl {

@@ -36,7 +36,7 @@ impl Part for Declarators {
 
     #[tactic(auto, using(crate::proofs::DeclarationLaws::declarator_is))]
     fn read<'a>(alloc: Global, tokens: &'a [Token], budget: Budget) -> Read<'a, Declarator> {
-        let (name, rest) = name(alloc, tokens)?;
+        let (name, rest) = name(tokens)?;
         declarator_rest(alloc, name, rest, budget)
     }
 

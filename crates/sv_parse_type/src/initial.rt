@@ -69,7 +69,7 @@ fn new_rest<'a>(alloc: Global, at: Place, tokens: &'a [Token], budget: Budget) -
         return Ok((Init::New(at, written(list)), rest));
     }
     if is_next(tokens, Kind::Name) {
-        let (name, rest) = name(alloc, tokens)?;
+        let (name, rest) = name(tokens)?;
         return Ok((Init::Copy(at, name), rest));
     }
     if is_next(tokens, Kind::LeftBracket) {

@@ -1,14 +1,14 @@
 // Types, dimensions and declarations, once each.
 use crate::{Dimensions, word_decl, written_type};
-use std::alloc::{AllocError, Global};
+use std::alloc::Global;
 use std::process::Abort;
 use std::test::Fail;
 use sv_parse::{Budget, Part, ReadError, SyntaxFault, SyntaxKind, fault_of};
 use sv_tree::{Actuals, Dimension, Init, Kind, Token, WrittenType};
-use sv_value::{Place, Text};
+use sv_value::{Excerpt, NoMemory, Place};
 
 /// A token of each kind, in the columns from 1 on.
-fn tokens(alloc: Global, kinds: &[Kind]) -> Result<Vec<Token>, AllocError> {
+fn tokens(alloc: Global, kinds: &[Kind]) -> Result<Vec<Token>, NoMemory> {
     let mut list = Vec::new(alloc);
     let mut col = 1;
     for kind in kinds {
@@ -20,7 +20,7 @@ fn tokens(alloc: Global, kinds: &[Kind]) -> Result<Vec<Token>, AllocError> {
         list.push(Token {
             kind: *kind,
             at,
-            text: Text::new(alloc),
+            text: Excerpt::new(alloc, b"")?,
         })?;
         col = col.saturating_add(1);
     }
@@ -51,7 +51,7 @@ fn fault(error: ReadError) -> Told {
 }
 
 /// What is told of a dimension of these kinds.
-fn dimension(alloc: Global, kinds: &[Kind]) -> Result<Told, AllocError> {
+fn dimension(alloc: Global, kinds: &[Kind]) -> Result<Told, NoMemory> {
     let text = tokens(alloc, kinds)?;
     let (dimension, rest) = match Dimensions::read(alloc, &text, Budget::whole()) {
         Ok(read) => read,
@@ -69,7 +69,7 @@ fn dimension(alloc: Global, kinds: &[Kind]) -> Result<Told, AllocError> {
 }
 
 /// What is told of a type of these kinds, where so much may stand in it.
-fn type_within(alloc: Global, kinds: &[Kind], budget: Budget) -> Result<Told, AllocError> {
+fn type_within(alloc: Global, kinds: &[Kind], budget: Budget) -> Result<Told, NoMemory> {
     let text = tokens(alloc, kinds)?;
     let (of, rest) = match written_type(alloc, &text, budget) {
         Ok(read) => read,
@@ -85,7 +85,7 @@ fn type_within(alloc: Global, kinds: &[Kind], budget: Budget) -> Result<Told, Al
 }
 
 /// What is told of the value of the first name of a declaration of these kinds.
-fn first_value(alloc: Global, kinds: &[Kind]) -> Result<Told, AllocError> {
+fn first_value(alloc: Global, kinds: &[Kind]) -> Result<Told, NoMemory> {
     let text = tokens(alloc, kinds)?;
     let (decl, rest) = match word_decl(alloc, &text, Budget::whole()) {
         Ok(read) => read,

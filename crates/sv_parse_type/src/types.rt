@@ -87,36 +87,29 @@ impl Part for BoxedRanges {
 
 // ---- what begins a type
 
-/// Whether a kind begins a type, but for a name.
-fn word_type_first(kind: Kind) -> bool
-    ensures { result ≡ mem (code kind) word_type_first }
-{
-    matches!(
-        kind,
-        Kind::Bit
-            | Kind::Logic
-            | Kind::Reg
-            | Kind::Byte
-            | Kind::Shortint
-            | Kind::Int
-            | Kind::Longint
-            | Kind::Integer
-            | Kind::Time
-            | Kind::String
-            | Kind::Event
-            | Kind::Semaphore
-            | Kind::Mailbox
-            | Kind::Enum
-    )
-}
-
 /// Whether a type that a word begins comes next.
 pub fn begins_word_type(tokens: &[Token]) -> bool
     ensures { result ≡ mem (next (toks tokens.now)).code word_type_first }
 {
     match tokens {
         [] => false,
-        [first, ..] => word_type_first(first.kind),
+        [first, ..] => matches!(
+            first.kind,
+            Kind::Bit
+                | Kind::Logic
+                | Kind::Reg
+                | Kind::Byte
+                | Kind::Shortint
+                | Kind::Int
+                | Kind::Longint
+                | Kind::Integer
+                | Kind::Time
+                | Kind::String
+                | Kind::Event
+                | Kind::Semaphore
+                | Kind::Mailbox
+                | Kind::Enum
+        ),
     }
 }
 
@@ -181,7 +174,7 @@ impl Part for EnumItems {
 
     #[tactic(auto, unfolding(sv_tree::specs::TypeGrammar::enum_item))]
     fn read<'a>(alloc: Global, tokens: &'a [Token], budget: Budget) -> Read<'a, EnumItem> {
-        let (name, rest) = name(alloc, tokens)?;
+        let (name, rest) = name(tokens)?;
         let (value, rest) = maybe::<Values>(alloc, rest, budget)?;
         Ok((EnumItem { name, value }, rest))
     }
@@ -292,7 +285,7 @@ pub fn written_type<'a>(alloc: Global, tokens: &'a [Token], budget: Budget) -> R
     ensures { Reads view.type budget grammar.type tokens.now result }
 {
     if !begins_word_type(tokens) {
-        let (name, rest) = name(alloc, tokens)?;
+        let (name, rest) = name(tokens)?;
         return Ok((WrittenType::Named(name), rest));
     }
     word_type(alloc, tokens, budget)

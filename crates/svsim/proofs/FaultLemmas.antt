@@ -2,10 +2,10 @@
 use Rattle.std.proofs.Common.{ℕ, ◌≡◌, ◌≢◌, true, false, List, [], ◌∷◌, ◌++◌, Option, Some, None, Ok, Err, refl, sym, ap, subst, ◌∙◌, append_assoc}
 use Rattle.sv_value.specs.declared.place.Place.{Place}
 use Rattle.sv_grammar.specs.Tokens.{Tok, blank, next}
-use Rattle.sv_grammar.specs.Language.{Lang, Reads, TooDeep, Unexpected, Open, Front, Deep, Odd, Out}
+use Rattle.sv_grammar.specs.Language.{Lang, Reads, IsTooDeep, IsUnexpected, Open, Prefix, TooDeep, Unexpected, Out}
 use Rattle.sv_grammar.specs.Code.{info, least, reach}
 use Rattle.sv_grammar.proofs.Codes.{grammar}
-use Rattle.sv_grammar.proofs.Facts.{front_of}
+use Rattle.sv_grammar.proofs.Facts.{prefix_of}
 use Rattle.sv_grammar.proofs.Lists.{Meet, same, longer, shorter, meet}
 use Rattle.sv_grammar.proofs.Whole.{complete}
 use Rattle.sv_tree.specs.declared.token.Token.{Token}
@@ -30,48 +30,48 @@ use Rattle.svsim.proofs.SourceLemmas.{one_reading}
 
 -- ---- the place where reading stops
 
-open_front : {A : Type 0} (L : Lang A) (u f : List Tok) (h : Tok) (z : List Tok) → f ≡ u ++ h ∷ z → Open L f → Front L (u ++ h ∷ [])
-open_front L u f h z e o = front_of L o.0 u h (z ++ o.1) blank (subst (λ (v : List Tok). L o.0 v blank) (ap (λ (v : List Tok). v ++ o.1) e ∙ append_assoc u (h ∷ z) o.1) (o.2 blank))
+open_prefix : {A : Type 0} (L : Lang A) (u f : List Tok) (h : Tok) (z : List Tok) → f ≡ u ++ h ∷ z → Open L f → Prefix L (u ++ h ∷ [])
+open_prefix L u f h z e o = prefix_of L o.0 u h (z ++ o.1) blank (subst (λ (v : List Tok). L o.0 v blank) (ap (λ (v : List Tok). v ++ o.1) e ∙ append_assoc u (h ∷ z) o.1) (o.2 blank))
 
 -- the tokens before can be gone on from, and with the next token not at this depth
 record Stops {A : Type 0} (l : ℕ → Lang A) (d : ℕ) (ts rest : List Tok) : Type 0 where
-  front : List Tok
-  parts : ts ≡ front ++ rest
-  viable : Open (l d) front
-  shut : Front (l d) (front ++ next rest ∷ []) → ⊥
+  prefix : List Tok
+  parts : ts ≡ prefix ++ rest
+  viable : Open (l d) prefix
+  shut : Prefix (l d) (prefix ++ next rest ∷ []) → ⊥
 
 module _ {A : Type 0} (l : ℕ → Lang A) (d : ℕ) (ts : List Tok) where
-  abbrev deep_stops : (rest : List Tok) → TooDeep l d ts rest → Stops l d ts rest
-  deep_stops rest t = record { front = t.front; parts = t.parts; viable = t.viable; shut = t.shut }
+  abbrev deep_stops : (rest : List Tok) → IsTooDeep l d ts rest → Stops l d ts rest
+  deep_stops rest t = record { prefix = t.prefix; parts = t.parts; viable = t.viable; shut = t.shut }
 
-  abbrev odd_stops : (rest : List Tok) → Unexpected l d ts rest → Stops l d ts rest
-  odd_stops rest t = record { front = t.front; parts = t.parts; viable = t.viable; shut = t.stops d }
+  abbrev unexpected_stops : (rest : List Tok) → IsUnexpected l d ts rest → Stops l d ts rest
+  unexpected_stops rest t = record { prefix = t.prefix; parts = t.parts; viable = t.viable; shut = t.stops d }
 
-  one_front : (r s : List Tok) → (p : Stops l d ts r) → (q : Stops l d ts s) → (p.front ≡ q.front) × (r ≡ s)
-  one_front r s p q = go (meet p.front r q.front s (sym p.parts ∙ q.parts))
+  one_prefix : (r s : List Tok) → (p : Stops l d ts r) → (q : Stops l d ts s) → (p.prefix ≡ q.prefix) × (r ≡ s)
+  one_prefix r s p q = go (meet p.prefix r q.prefix s (sym p.parts ∙ q.parts))
     where
-      go : Meet p.front r q.front s → (p.front ≡ q.front) × (r ≡ s)
+      go : Meet p.prefix r q.prefix s → (p.prefix ≡ q.prefix) × (r ≡ s)
       go (same e f) = (e, f)
-      go (longer h z e f) = absurd (p.shut (subst (λ (k : Tok). Front (l d) (p.front ++ k ∷ [])) (sym (ap next f)) (open_front (l d) p.front q.front h z e q.viable)))
-      go (shorter h z e f) = absurd (q.shut (subst (λ (k : Tok). Front (l d) (q.front ++ k ∷ [])) (sym (ap next f)) (open_front (l d) q.front p.front h z e p.viable)))
+      go (longer h z e f) = absurd (p.shut (subst (λ (k : Tok). Prefix (l d) (p.prefix ++ k ∷ [])) (sym (ap next f)) (open_prefix (l d) p.prefix q.prefix h z e q.viable)))
+      go (shorter h z e f) = absurd (q.shut (subst (λ (k : Tok). Prefix (l d) (q.prefix ++ k ∷ [])) (sym (ap next f)) (open_prefix (l d) q.prefix p.prefix h z e p.viable)))
 
   -- what deeper texts go on with does not go on with none
-  deep_or_odd : (r s : List Tok) → TooDeep l d ts r → Unexpected l d ts s → ⊥
-  deep_or_odd r s p q =
-      let both = one_front r s (deep_stops r p) (odd_stops s q) in
-      let o : Open (l p.deeper.0) (q.front ++ next s ∷ []) = subst (λ (v : List Tok). Open (l p.deeper.0) (q.front ++ next v ∷ [])) both.1 (subst (λ (v : List Tok). Open (l p.deeper.0) (v ++ next r ∷ [])) both.0 p.deeper.1) in
+  deep_or_unexpected : (r s : List Tok) → IsTooDeep l d ts r → IsUnexpected l d ts s → ⊥
+  deep_or_unexpected r s p q =
+      let both = one_prefix r s (deep_stops r p) (unexpected_stops s q) in
+      let o : Open (l p.deeper.0) (q.prefix ++ next s ∷ []) = subst (λ (v : List Tok). Open (l p.deeper.0) (q.prefix ++ next v ∷ [])) both.1 (subst (λ (v : List Tok). Open (l p.deeper.0) (v ++ next r ∷ [])) both.0 p.deeper.1) in
       q.stops p.deeper.0 (o.0, o.1, blank, o.2 blank)
 
 -- ---- the faults of tokens
 
 one_syntax : (d : ℕ) (ts : List Tok) (a b : Place) (k m : SyntaxKind) → IsFault d ts a k → IsFault d ts b m → (a ≡ b) × (k ≡ m)
 one_syntax d ts a b kinds.Depth kinds.Depth p q =
-    let both = one_front (texts_of file) d ts p.0 q.0 (deep_stops (texts_of file) d ts p.0 p.2) (deep_stops (texts_of file) d ts q.0 q.2) in
+    let both = one_prefix (texts_of file) d ts p.0 q.0 (deep_stops (texts_of file) d ts p.0 p.2) (deep_stops (texts_of file) d ts q.0 q.2) in
     (p.1 ∙ ap (λ (v : List Tok). (next v).at) both.1 ∙ sym q.1, refl)
-one_syntax d ts a b kinds.Depth kinds.Unexpected p q = absurd (deep_or_odd (texts_of file) d ts p.0 q.0 p.2 q.2)
-one_syntax d ts a b kinds.Unexpected kinds.Depth p q = absurd (deep_or_odd (texts_of file) d ts q.0 p.0 q.2 p.2)
+one_syntax d ts a b kinds.Depth kinds.Unexpected p q = absurd (deep_or_unexpected (texts_of file) d ts p.0 q.0 p.2 q.2)
+one_syntax d ts a b kinds.Unexpected kinds.Depth p q = absurd (deep_or_unexpected (texts_of file) d ts q.0 p.0 q.2 p.2)
 one_syntax d ts a b kinds.Unexpected kinds.Unexpected p q =
-    let both = one_front (texts_of file) d ts p.0 q.0 (odd_stops (texts_of file) d ts p.0 p.2) (odd_stops (texts_of file) d ts q.0 q.2) in
+    let both = one_prefix (texts_of file) d ts p.0 q.0 (unexpected_stops (texts_of file) d ts p.0 p.2) (unexpected_stops (texts_of file) d ts q.0 q.2) in
     (p.1 ∙ ap (λ (v : List Tok). (next v).at) both.1 ∙ sym q.1, refl)
 
 abbrev got : List Description → Out (List Description)
@@ -80,10 +80,10 @@ got us = Ok (us, [])
 -- what is read to the end has no fault
 read_through : (d : ℕ) (ts : List Tok) (us : List Description) (at : Place) (k : SyntaxKind) → Reads (texts_of file) d ts us [] → IsFault d ts at k → ⊥
 read_through d ts us at kinds.Depth r f =
-    let no : got us ≡ Err (Deep f.0) = sym (complete (texts_of file) (info Production Value heads need file) (λ e. reach (least Production Value heads need file) e) (grammar Production Value heads need table good file file_fine) d ts (Err (Deep f.0)) f.2 us r.front [] r.parts r.word r.stops) in
+    let no : got us ≡ Err (TooDeep f.0) = sym (complete (texts_of file) (info Production Value heads need file) (λ e. reach (least Production Value heads need file) e) (grammar Production Value heads need table good file file_fine) d ts (Err (TooDeep f.0)) f.2 us r.prefix [] r.parts r.word r.stops) in
     cc
 read_through d ts us at kinds.Unexpected r f =
-    let no : got us ≡ Err (Odd f.0) = sym (complete (texts_of file) (info Production Value heads need file) (λ e. reach (least Production Value heads need file) e) (grammar Production Value heads need table good file file_fine) d ts (Err (Odd f.0)) f.2 us r.front [] r.parts r.word r.stops) in
+    let no : got us ≡ Err (Unexpected f.0) = sym (complete (texts_of file) (info Production Value heads need file) (λ e. reach (least Production Value heads need file) e) (grammar Production Value heads need table good file file_fine) d ts (Err (Unexpected f.0)) f.2 us r.prefix [] r.parts r.word r.stops) in
     cc
 
 -- ---- the faults of a text

@@ -17,7 +17,7 @@ module _ (unit : List ℕ) (t : VariableType) where
 
   -- one name, and then the others
   first_name : (n : stmts.Declarator) (ns : List stmts.Declarator) (os : List Object) → with_names unit t (n ∷ ns) os ≡ option_and_then (with_names unit t ns) (with_names unit t (n ∷ []) os)
-  first_name n ns os = by_test (is_none n.dim && is_none n.init) ns os (os ++ object_of unit t n.name ∷ [])
+  first_name n ns os = by_test (is_none n.dimension && is_none n.init) ns os (os ++ object_of unit t n.name ∷ [])
 
   module _ (all : List Declarator) (i : ℕ) (x : Declarator) (h : i < length all) (e : x ≡ get_or all i x) (os : List Object) (y : Option (List Object))
       (so_far : with_names unit t (map declarator (drop i all)) os ≡ y) where

@@ -55,7 +55,14 @@ fn add_procedure(
         return Err(FrontFault::NotYet);
     }
     let mut stmts = Vec::new(alloc);
-    add(alloc, objects, MOST_DEPTH, &procedure.body, &mut stmts, routines)?;
+    add(
+        alloc,
+        objects,
+        MOST_DEPTH,
+        &procedure.body,
+        &mut stmts,
+        routines,
+    )?;
     let body = close(procedure.at, stmts, routines)?;
     processes.push(process_of(alloc, unit, procedure.at, body)?)?;
     Ok(())
@@ -201,7 +208,11 @@ pub fn has_unit(units: &[Description]) -> bool
 }
 
 /// What the design of a file is made of, if the file has the form that runs today.
-pub fn parts_of(alloc: Global, scales: &[Timescale], units: &[Description]) -> Result<Parts, FrontFault>
+pub fn parts_of(
+    alloc: Global,
+    scales: &[Timescale],
+    units: &[Description],
+) -> Result<Parts, FrontFault>
     ensures { Gives (λ d. d) result (design_of scales.now (map file_tree units.now)) }
 {
     let [Description::Module(module)] = units else {

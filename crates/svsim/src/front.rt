@@ -97,7 +97,11 @@ pub fn syntax_text(kind: SyntaxKind) -> &'static str
 }
 
 /// The design of the units of a file, or why they have none.
-fn design_of(alloc: Global, scales: &[Timescale], units: &[Description]) -> Result<Design, FrontFault>
+fn design_of(
+    alloc: Global,
+    scales: &[Timescale],
+    units: &[Description],
+) -> Result<Design, FrontFault>
     ensures design { IfOk result (λ d. IsDesign scales.now (map file_tree units.now) d) }
     ensures none { IfErr result (Declines scales.now (map file_tree units.now)) }
 {

@@ -330,7 +330,10 @@ pub fn expression(alloc: Global, objects: &[Object], e: &Expr) -> Result<Typed, 
             ..
         } => inverted(alloc, objects, operand),
         Expr::Binary {
-            word, left, right, ..
+            word,
+            left,
+            right,
+            ..
         } => {
             let a = operand(alloc, objects, left)?;
             let b = operand(alloc, objects, right)?;

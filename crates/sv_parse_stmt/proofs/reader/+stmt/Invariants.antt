@@ -5,42 +5,33 @@ use Rattle.sv_tree.specs.Forms.{statement}
 use Rattle.sv_tree.specs.StmtGrammar as grammar
 use Rattle.sv_tree.specs.StmtView as view
 use Rattle.sv_tree.specs.Grammar.{reads}
-use Rattle.sv_parse_expr.specs.Chains.{from}
+use Rattle.sv_parse.specs.Parts.{from}
 use Rattle.sv_parse_stmt.proofs.reader.+stmt.Given as goal
 
 abbrev pub decreases-statement : goal.decreases-statement
-decreases-statement l = 16 * l.budget + 9
+decreases-statement l = 8 * l.budget
 
-abbrev pub decreases-named_statement : goal.decreases-named_statement
-decreases-named_statement l = 16 * l.budget + 8
-
-abbrev pub decreases-body_of : goal.decreases-body_of
-decreases-body_of l = 16 * l.budget + 7
-
-abbrev pub decreases-unnamed : goal.decreases-unnamed
-decreases-unnamed l = 16 * l.budget + 6
-
-abbrev pub decreases-items : goal.decreases-items
-decreases-items l = 16 * l.budget + 2
+abbrev pub decreases-completed : goal.decreases-completed
+decreases-completed l = 8 * l.budget + 4
 
 abbrev pub decreases-statements : goal.decreases-statements
-decreases-statements l = 16 * l.budget + 1
+decreases-statements l = 8 * l.budget + 1
 
-abbrev pub decreases-arms : goal.decreases-arms
-decreases-arms l = 16 * l.budget + 2
+abbrev pub decreases-case_items : goal.decreases-case_items
+decreases-case_items l = 8 * l.budget + 2
 
-abbrev pub decreases-arm : goal.decreases-arm
-decreases-arm l = 16 * l.budget + 1
+abbrev pub decreases-case_item : goal.decreases-case_item
+decreases-case_item l = 8 * l.budget + 1
 
 abbrev pub decreases-if_rest : goal.decreases-if_rest
-decreases-if_rest l = 16 * l.budget + 1
+decreases-if_rest l = 8 * l.budget + 1
 
 -- the items so far, read on, give what all give
-abbrev pub invariant-arms-arms : goal.invariant-arms-arms
-invariant-arms-arms l = from grammar.arm l.budget (map view.arm l.list.items) (toks l.rest) ≡ reads l.budget (Rep grammar.arm) (toks l.tokens)
+abbrev pub invariant-case_items-items : goal.invariant-case_items-items
+invariant-case_items-items l = from grammar.case_item l.budget (map view.case_item l.list.items) (toks l.rest) ≡ reads l.budget (Rep grammar.case_item) (toks l.tokens)
 
-abbrev pub decreases-arms-arms : goal.decreases-arms-arms
-decreases-arms-arms l = length l.rest
+abbrev pub decreases-case_items-items : goal.decreases-case_items-items
+decreases-case_items-items l = length l.rest
 
 -- the statements so far, read on, give what all give
 abbrev pub invariant-statements-stmts : goal.invariant-statements-stmts
