@@ -8,7 +8,6 @@ use sv_value::Place;
 // ---- declarations
 
 /// `dim = "[" [expr | expr ":" expr | "$" | type] "]"`, at `[` (A.2.5).
-#[derive(Drop)]
 pub enum Dimension {
     /// `"[" "]"`
     Empty(Place),
@@ -24,8 +23,20 @@ pub enum Dimension {
     Named(Place, Name),
 }
 
+impl Drop for Dimension {
+    fn drop(self) {
+        match self {
+            Dimension::Empty(_) => {}
+            Dimension::Size(_, _) => {}
+            Dimension::Bounds(_) => {}
+            Dimension::Queue(_) => {}
+            Dimension::Key(_, _) => {}
+            Dimension::Named(_, _) => {}
+        }
+    }
+}
+
 /// `init`: the value of a declaration or of an assignment (A.2.4); `new` is at its word.
-#[derive(Drop)]
 pub enum Init {
     /// `expr`
     Value(Expr),
@@ -41,41 +52,87 @@ pub enum Init {
     },
 }
 
+impl Drop for Init {
+    fn drop(self) {
+        match self {
+            Init::Value(_) => {}
+            Init::New(_, _) => {}
+            Init::Copy(_, _) => {}
+            Init::Array {
+                at: _,
+                size: _,
+                source: _,
+            } => {}
+        }
+    }
+}
+
 /// `id [dim] ["=" init]`
-#[derive(Drop)]
 pub struct Declarator {
     pub name: Name,
     pub dimension: Option<Dimension>,
     pub init: Option<Init>,
 }
 
+impl Drop for Declarator {
+    fn drop(self) {
+        let Declarator {
+            name: _,
+            dimension: _,
+            init: _,
+        } = self;
+    }
+}
+
 /// `decl = [life] ["var"] type list(id [dim] ["=" init]) ";"` (A.2.1.3)
-#[derive(Drop)]
 pub struct Decl {
     pub life: Life,
     pub of: WrittenType,
     pub names: Vec<Declarator>,
 }
 
+impl Drop for Decl {
+    fn drop(self) {
+        let Decl {
+            life: _,
+            of: _,
+            names: _,
+        } = self;
+    }
+}
+
 // ---- parts of statements
 
 /// `delay = "#" (number | time | id | "(" expr ")")`, at `#` (A.2.2.3)
-#[derive(Drop)]
 pub struct Delay {
     pub at: Place,
     pub amount: Expr,
 }
 
+impl Drop for Delay {
+    fn drop(self) {
+        let Delay { at: _, amount: _ } = self;
+    }
+}
+
 /// `ev = ["posedge" | "negedge"] expr ["iff" expr]` (A.6.5)
-#[derive(Drop)]
 pub struct EventPart {
     pub edge: EdgeWord,
     pub expr: Expr,
     pub condition: Option<Expr>,
 }
 
+impl Drop for EventPart {
+    fn drop(self) {
+        let EventPart {
+            edge: _,
+            expr: _,
+            condition: _,
+        } = self;
+    }
+}
+
 /// `event`: what an event control waits for (A.6.5)
-#[derive(Drop)]
 pub enum Event {
     /// `id`
     Named(Name),
@@ -85,32 +142,68 @@ pub enum Event {
     Parts(Vec<EventPart>),
 }
 
+impl Drop for Event {
+    fn drop(self) {
+        match self {
+            Event::Named(_) => {}
+            Event::Star => {}
+            Event::Parts(_) => {}
+        }
+    }
+}
+
 /// A blocking assignment: `lval "=" [delay] init` (A.6.2)
-#[derive(Drop)]
 pub struct BlockingAssignment {
     pub target: Lval,
     pub delay: Option<Delay>,
     pub value: Init,
 }
 
+impl Drop for BlockingAssignment {
+    fn drop(self) {
+        let BlockingAssignment {
+            target: _,
+            delay: _,
+            value: _,
+        } = self;
+    }
+}
+
 /// A nonblocking assignment: `lval "<=" [delay] expr` (A.6.2)
-#[derive(Drop)]
 pub struct NonblockingAssignment {
     pub target: Lval,
     pub delay: Option<Delay>,
     pub value: Expr,
 }
 
+impl Drop for NonblockingAssignment {
+    fn drop(self) {
+        let NonblockingAssignment {
+            target: _,
+            delay: _,
+            value: _,
+        } = self;
+    }
+}
+
 /// An assignment with an operator: `lval aop expr` (A.6.2)
-#[derive(Drop)]
 pub struct OperatorAssignment {
     pub target: Lval,
     pub word: BinaryWord,
     pub value: Expr,
 }
 
+impl Drop for OperatorAssignment {
+    fn drop(self) {
+        let OperatorAssignment {
+            target: _,
+            word: _,
+            value: _,
+        } = self;
+    }
+}
+
 /// The first part of a `for`: `type id "=" expr | lval "=" expr` (A.6.8)
-#[derive(Drop)]
 pub enum ForInit {
     /// `type id "=" expr`
     Declare {
@@ -122,8 +215,20 @@ pub enum ForInit {
     Assign(Lval, Expr),
 }
 
+impl Drop for ForInit {
+    fn drop(self) {
+        match self {
+            ForInit::Declare {
+                of: _,
+                name: _,
+                value: _,
+            } => {}
+            ForInit::Assign(_, _) => {}
+        }
+    }
+}
+
 /// The last part of a `for`: `step` (A.6.8)
-#[derive(Drop)]
 pub enum ForStep {
     /// `lval "=" expr`
     Assign(Lval, Expr),
@@ -138,10 +243,23 @@ pub enum ForStep {
     },
 }
 
+impl Drop for ForStep {
+    fn drop(self) {
+        match self {
+            ForStep::Assign(_, _) => {}
+            ForStep::Operator(_) => {}
+            ForStep::Step {
+                at: _,
+                target: _,
+                word: _,
+            } => {}
+        }
+    }
+}
+
 // ---- statements
 
 /// `stmt = [id ":"] body` (A.6.4), at the first token of its body; the label has its own place
-#[derive(Drop)]
 #[cycle(stmt)]
 pub struct Stmt {
     pub at: Place,
@@ -149,8 +267,18 @@ pub struct Stmt {
     pub body: Body,
 }
 
+impl Drop for Stmt {
+    #[cycle(drop_stmt)]
+    fn drop(self) {
+        let Stmt {
+            at: _,
+            label: _,
+            body: _,
+        } = self;
+    }
+}
+
 /// An item of a `case` (A.6.7)
-#[derive(Drop)]
 #[cycle(stmt)]
 pub enum CaseItem {
     /// `list(expr) ":" stmt`
@@ -159,8 +287,17 @@ pub enum CaseItem {
     Default(Box<Stmt>),
 }
 
+impl Drop for CaseItem {
+    #[cycle(drop_stmt)]
+    fn drop(self) {
+        match self {
+            CaseItem::Labels(_, _) => {}
+            CaseItem::Default(_) => {}
+        }
+    }
+}
+
 /// `body`: a statement without its label (A.6.2 to A.6.8)
-#[derive(Drop)]
 #[cycle(stmt)]
 pub enum Body {
     /// `";"`
@@ -259,4 +396,76 @@ pub enum Body {
     Continue,
     /// `"return" [expr] ";"`
     Return(Option<Expr>),
+}
+
+impl Drop for Body {
+    #[cycle(drop_stmt)]
+    fn drop(self) {
+        match self {
+            Body::Null => {}
+            Body::Block {
+                name: _,
+                decls: _,
+                stmts: _,
+                label: _,
+            } => {}
+            Body::Fork {
+                name: _,
+                decls: _,
+                stmts: _,
+                join: _,
+                label: _,
+            } => {}
+            Body::Blocking(_) => {}
+            Body::Nonblocking(_) => {}
+            Body::Operator(_) => {}
+            Body::Step(_, _) => {}
+            Body::Call(_) => {}
+            Body::Ignore(_, _) => {}
+            Body::If(_, _) => {}
+            Body::IfElse {
+                condition: _,
+                yes: _,
+                no: _,
+            } => {}
+            Body::Case {
+                word: _,
+                subject: _,
+                items: _,
+            } => {}
+            Body::For {
+                init: _,
+                condition: _,
+                step: _,
+                body: _,
+            } => {}
+            Body::While(_, _) => {}
+            Body::Do(_, _) => {}
+            Body::Repeat(_, _) => {}
+            Body::Forever(_) => {}
+            Body::Foreach {
+                array: _,
+                index: _,
+                body: _,
+            } => {}
+            Body::After(_, _) => {}
+            Body::On(_, _) => {}
+            Body::Cycles {
+                at: _,
+                amount: _,
+                body: _,
+            } => {}
+            Body::Wait {
+                at: _,
+                condition: _,
+                body: _,
+            } => {}
+            Body::WaitFork => {}
+            Body::DisableFork => {}
+            Body::Trigger(_) => {}
+            Body::Break => {}
+            Body::Continue => {}
+            Body::Return(_) => {}
+        }
+    }
 }

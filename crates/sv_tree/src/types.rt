@@ -3,22 +3,35 @@ use crate::{AtomWord, Expr, Name, Sign, VectorWord};
 use sv_value::Place;
 
 /// `range = "[" expr ":" expr "]"`, at `[`.
-#[derive(Drop)]
 pub struct Range {
     pub at: Place,
     pub left: Expr,
     pub right: Expr,
 }
 
+impl Drop for Range {
+    fn drop(self) {
+        let Range {
+            at: _,
+            left: _,
+            right: _,
+        } = self;
+    }
+}
+
 /// An item of an enumeration: `id ["=" expr]`.
-#[derive(Drop)]
 pub struct EnumItem {
     pub name: Name,
     pub value: Option<Expr>,
 }
 
+impl Drop for EnumItem {
+    fn drop(self) {
+        let EnumItem { name: _, value: _ } = self;
+    }
+}
+
 /// A type as it is written; each but a name is at its word.
-#[derive(Drop)]
 pub enum WrittenType {
     /// `("bit" | "logic" | "reg") [sign] [range]`
     Vector {
@@ -55,8 +68,37 @@ pub enum WrittenType {
     },
 }
 
+impl Drop for WrittenType {
+    fn drop(self) {
+        match self {
+            WrittenType::Vector {
+                at: _,
+                word: _,
+                sign: _,
+                range: _,
+            } => {}
+            WrittenType::Atom {
+                at: _,
+                word: _,
+                sign: _,
+            } => {}
+            WrittenType::Text(_) => {}
+            WrittenType::Event(_) => {}
+            WrittenType::Semaphore(_) => {}
+            WrittenType::Mailbox(_) => {}
+            WrittenType::MailboxOf(_, _) => {}
+            WrittenType::Named(_) => {}
+            WrittenType::Enum(_, _) => {}
+            WrittenType::EnumOf {
+                at: _,
+                base: _,
+                items: _,
+            } => {}
+        }
+    }
+}
+
 /// A type that may be left out: `[itype]`, where `itype = type | [sign] range | sign` (A.2.2.1)
-#[derive(Drop)]
 pub enum ImpliedType {
     /// Nothing is written.
     Unwritten,
@@ -68,4 +110,18 @@ pub enum ImpliedType {
     },
     /// `type`
     Written(WrittenType),
+}
+
+impl Drop for ImpliedType {
+    fn drop(self) {
+        match self {
+            ImpliedType::Unwritten => {}
+            ImpliedType::Vector {
+                at: _,
+                sign: _,
+                range: _,
+            } => {}
+            ImpliedType::Written(_) => {}
+        }
+    }
 }

@@ -8,22 +8,35 @@ use sv_value::Place;
 // ---- parameters, ports, connections
 
 /// `param = ("parameter" | "localparam") [itype] list(id "=" expr)` (A.2.1.1)
-#[derive(Drop)]
 pub struct Param {
     pub word: ParamWord,
     pub of: ImpliedType,
     pub names: Vec<ParamItem>,
 }
 
+impl Drop for Param {
+    fn drop(self) {
+        let Param {
+            word: _,
+            of: _,
+            names: _,
+        } = self;
+    }
+}
+
 /// A parameter and its value: `id "=" expr`
-#[derive(Drop)]
 pub struct ParamItem {
     pub name: Name,
     pub value: Expr,
 }
 
+impl Drop for ParamItem {
+    fn drop(self) {
+        let ParamItem { name: _, value: _ } = self;
+    }
+}
+
 /// `port = [("input" | "output") ["wire" | "tri"] [itype]] id` (A.1.3). The first of a list has a direction.
-#[derive(Drop)]
 pub struct Port {
     pub direction: Option<PortDirection>,
     /// Whether `wire` or `tri` is written.
@@ -32,8 +45,18 @@ pub struct Port {
     pub name: Name,
 }
 
+impl Drop for Port {
+    fn drop(self) {
+        let Port {
+            direction: _,
+            is_net: _,
+            of: _,
+            name: _,
+        } = self;
+    }
+}
+
 /// `conn = expr | "." id ["(" [expr] ")"] | ".*"` (A.4.1.1)
-#[derive(Drop)]
 pub enum Connection {
     /// `expr`
     Value(Expr),
@@ -50,17 +73,39 @@ pub enum Connection {
     All(Place),
 }
 
+impl Drop for Connection {
+    fn drop(self) {
+        match self {
+            Connection::Value(_) => {}
+            Connection::Named(_, _) => {}
+            Connection::Given {
+                at: _,
+                name: _,
+                value: _,
+            } => {}
+            Connection::All(_) => {}
+        }
+    }
+}
+
 /// `id "(" [list(conn)] ")"` (A.4.1.1)
-#[derive(Drop)]
 pub struct Instance {
     pub name: Name,
     pub connections: Vec<Connection>,
 }
 
+impl Drop for Instance {
+    fn drop(self) {
+        let Instance {
+            name: _,
+            connections: _,
+        } = self;
+    }
+}
+
 // ---- subroutines and types
 
 /// An argument of a subroutine: `[dir] [itype] id ["=" expr]` (A.2.7)
-#[derive(Drop)]
 pub struct Argument {
     pub direction: Option<Direction>,
     pub of: ImpliedType,
@@ -68,8 +113,18 @@ pub struct Argument {
     pub default: Option<Expr>,
 }
 
+impl Drop for Argument {
+    fn drop(self) {
+        let Argument {
+            direction: _,
+            of: _,
+            name: _,
+            default: _,
+        } = self;
+    }
+}
+
 /// What a subroutine is and gives: the words `function`, `task` and `void`, and the type of the result (A.2.6, A.2.7)
-#[derive(Drop)]
 pub enum Returns {
     /// A task.
     Task,
@@ -79,9 +134,18 @@ pub enum Returns {
     Value(ImpliedType),
 }
 
+impl Drop for Returns {
+    fn drop(self) {
+        match self {
+            Returns::Task => {}
+            Returns::Void => {}
+            Returns::Value(_) => {}
+        }
+    }
+}
+
 /// `head = "function" [life] ("new" | ["void" | itype] id) [args] | "task" [life] id [args]`, at its word (A.2.6, A.2.7).
 /// A constructor has the name `new`.
-#[derive(Drop)]
 pub struct Head {
     pub at: Place,
     pub life: Life,
@@ -90,8 +154,19 @@ pub struct Head {
     pub arguments: Vec<Argument>,
 }
 
+impl Drop for Head {
+    fn drop(self) {
+        let Head {
+            at: _,
+            life: _,
+            returns: _,
+            name: _,
+            arguments: _,
+        } = self;
+    }
+}
+
 /// `routine = head ";" {decl} {stmt} ("endfunction" | "endtask") [":" (id | "new")]` (A.2.6, A.2.7)
-#[derive(Drop)]
 pub struct Routine {
     pub head: Head,
     pub decls: Vec<Decl>,
@@ -100,11 +175,27 @@ pub struct Routine {
     pub label: Option<Name>,
 }
 
+impl Drop for Routine {
+    fn drop(self) {
+        let Routine {
+            head: _,
+            decls: _,
+            stmts: _,
+            label: _,
+        } = self;
+    }
+}
+
 /// `"typedef" type id ";"` (A.2.1.3)
-#[derive(Drop)]
 pub struct Typedef {
     pub of: WrittenType,
     pub name: Name,
+}
+
+impl Drop for Typedef {
+    fn drop(self) {
+        let Typedef { of: _, name: _ } = self;
+    }
 }
 
 // ---- classes
@@ -119,28 +210,48 @@ pub struct Qualifiers {
 }
 
 /// `{qualifier} decl` (A.1.9)
-#[derive(Drop)]
 pub struct Property {
     pub qualifiers: Qualifiers,
     pub decl: Decl,
 }
 
+impl Drop for Property {
+    fn drop(self) {
+        let Property {
+            qualifiers: _,
+            decl: _,
+        } = self;
+    }
+}
+
 /// `{qualifier} routine` (A.1.9)
-#[derive(Drop)]
 pub struct Method {
     pub qualifiers: Qualifiers,
     pub routine: Routine,
 }
 
+impl Drop for Method {
+    fn drop(self) {
+        let Method {
+            qualifiers: _,
+            routine: _,
+        } = self;
+    }
+}
+
 /// `"pure" "virtual" head ";"`, at `pure` (A.1.9)
-#[derive(Drop)]
 pub struct PureMethod {
     pub at: Place,
     pub head: Head,
 }
 
+impl Drop for PureMethod {
+    fn drop(self) {
+        let PureMethod { at: _, head: _ } = self;
+    }
+}
+
 /// `citem`: an item of a class (A.1.9)
-#[derive(Drop)]
 pub enum ClassItem {
     /// `{qualifier} decl`
     Property(Box<Property>),
@@ -156,8 +267,20 @@ pub enum ClassItem {
     Null,
 }
 
+impl Drop for ClassItem {
+    fn drop(self) {
+        match self {
+            ClassItem::Property(_) => {}
+            ClassItem::Method(_) => {}
+            ClassItem::Pure(_) => {}
+            ClassItem::Typedef(_) => {}
+            ClassItem::Announce(_) => {}
+            ClassItem::Null => {}
+        }
+    }
+}
+
 /// `class = ["virtual"] "class" id ["extends" id] ";" {citem} "endclass" [":" id]`, at its first word (A.1.2)
-#[derive(Drop)]
 pub struct Class {
     pub at: Place,
     pub is_virtual: bool,
@@ -168,10 +291,22 @@ pub struct Class {
     pub label: Option<Name>,
 }
 
+impl Drop for Class {
+    fn drop(self) {
+        let Class {
+            at: _,
+            is_virtual: _,
+            name: _,
+            base: _,
+            items: _,
+            label: _,
+        } = self;
+    }
+}
+
 // ---- clocking blocks
 
 /// `skew`: when a clocking signal is sampled or driven, at `#` (A.6.11)
-#[derive(Drop)]
 pub enum Skew {
     /// `"#" "1step"`
     OneStep(Place),
@@ -179,15 +314,31 @@ pub enum Skew {
     Amount(Place, Expr),
 }
 
+impl Drop for Skew {
+    fn drop(self) {
+        match self {
+            Skew::OneStep(_) => {}
+            Skew::Amount(_, _) => {}
+        }
+    }
+}
+
 /// A direction of clocking signals, with its skew: `("input" | "output") [skew] | "inout"`
-#[derive(Drop)]
 pub struct Sided {
     pub direction: Direction,
     pub skew: Option<Skew>,
 }
 
+impl Drop for Sided {
+    fn drop(self) {
+        let Sided {
+            direction: _,
+            skew: _,
+        } = self;
+    }
+}
+
 /// `citems`: an item of a clocking block (A.6.11)
-#[derive(Drop)]
 pub enum ClockingItem {
     /// `"default" {("input" | "output") skew} ";"`
     Default(Vec<Sided>),
@@ -195,8 +346,16 @@ pub enum ClockingItem {
     Signals(Vec<Sided>, Vec<Name>),
 }
 
+impl Drop for ClockingItem {
+    fn drop(self) {
+        match self {
+            ClockingItem::Default(_) => {}
+            ClockingItem::Signals(_, _) => {}
+        }
+    }
+}
+
 /// `["default"] "clocking" id "@" "(" ["posedge" | "negedge"] id ")" ";" {citems} "endclocking" [":" id]` (A.6.11)
-#[derive(Drop)]
 pub struct ClockingBlock {
     /// The place of `default`, where it is written.
     pub default: Option<Place>,
@@ -209,17 +368,34 @@ pub struct ClockingBlock {
     pub label: Option<Name>,
 }
 
+impl Drop for ClockingBlock {
+    fn drop(self) {
+        let ClockingBlock {
+            default: _,
+            name: _,
+            edge: _,
+            event: _,
+            items: _,
+            label: _,
+        } = self;
+    }
+}
+
 // ---- items
 
 /// A net, and the expression that drives it: `id ["=" expr]` (A.2.4)
-#[derive(Drop)]
 pub struct NetItem {
     pub name: Name,
     pub value: Option<Expr>,
 }
 
+impl Drop for NetItem {
+    fn drop(self) {
+        let NetItem { name: _, value: _ } = self;
+    }
+}
+
 /// `net = ("wire" | "tri") ["logic"] [sign] [range] list(id ["=" expr]) ";"`, at its word (A.2.1.3)
-#[derive(Drop)]
 pub struct NetDecl {
     pub at: Place,
     pub sign: Sign,
@@ -227,15 +403,33 @@ pub struct NetDecl {
     pub names: Vec<NetItem>,
 }
 
+impl Drop for NetDecl {
+    fn drop(self) {
+        let NetDecl {
+            at: _,
+            sign: _,
+            range: _,
+            names: _,
+        } = self;
+    }
+}
+
 /// A continuous assignment: `lval "=" expr` (A.6.1)
-#[derive(Drop)]
 pub struct AssignItem {
     pub target: Lval,
     pub value: Expr,
 }
 
+impl Drop for AssignItem {
+    fn drop(self) {
+        let AssignItem {
+            target: _,
+            value: _,
+        } = self;
+    }
+}
+
 /// `inst = id ["#" "(" list(conn) ")"] list(id "(" [list(conn)] ")") ";"` (A.4.1.1)
-#[derive(Drop)]
 pub struct Instances {
     /// The name of what is instantiated.
     pub of: Name,
@@ -244,16 +438,34 @@ pub struct Instances {
     pub list: Vec<Instance>,
 }
 
+impl Drop for Instances {
+    fn drop(self) {
+        let Instances {
+            of: _,
+            params: _,
+            list: _,
+        } = self;
+    }
+}
+
 /// `("initial" | "always" | "always_comb" | "always_ff") stmt`, at its word (A.6.2)
-#[derive(Drop)]
 pub struct Procedure {
     pub at: Place,
     pub word: ProcedureWord,
     pub body: Stmt,
 }
 
+impl Drop for Procedure {
+    fn drop(self) {
+        let Procedure {
+            at: _,
+            word: _,
+            body: _,
+        } = self;
+    }
+}
+
 /// `mitem`, `pitem`, and what stands outside modules and programs (A.1.4, A.1.7)
-#[derive(Drop)]
 pub enum Item {
     /// `net`
     Net(Box<NetDecl>),
@@ -283,10 +495,29 @@ pub enum Item {
     Null,
 }
 
+impl Drop for Item {
+    fn drop(self) {
+        match self {
+            Item::Net(_) => {}
+            Item::Assign(_) => {}
+            Item::Instances(_) => {}
+            Item::Procedure(_) => {}
+            Item::Decl(_) => {}
+            Item::Typedef(_) => {}
+            Item::Announce(_) => {}
+            Item::Class(_) => {}
+            Item::Param(_) => {}
+            Item::Routine(_) => {}
+            Item::Clocking(_) => {}
+            Item::DefaultClocking(_, _) => {}
+            Item::Null => {}
+        }
+    }
+}
+
 /// A design element (3.2): from its word to its end (A.1.2),
 /// `[life] id [pports] [ports] ";" {item} end [":" id]`,
 /// where `pports = "#" "(" list(["parameter"] [itype] id "=" expr) ")"` and `ports = "(" [list(port)] ")"`.
-#[derive(Drop)]
 pub struct DesignElement {
     pub at: Place,
     pub life: Life,
@@ -299,8 +530,21 @@ pub struct DesignElement {
     pub label: Option<Name>,
 }
 
+impl Drop for DesignElement {
+    fn drop(self) {
+        let DesignElement {
+            at: _,
+            life: _,
+            name: _,
+            params: _,
+            ports: _,
+            items: _,
+            label: _,
+        } = self;
+    }
+}
+
 /// `unit = module | program | class | typedef | param ";" | routine | ";"` (A.1.2)
-#[derive(Drop)]
 pub enum Description {
     /// `module = "module" [life] id [pports] [ports] ";" {mitem} "endmodule" [":" id]`
     Module(Box<DesignElement>),
@@ -308,4 +552,14 @@ pub enum Description {
     Program(Box<DesignElement>),
     /// What stands outside modules and programs: `class | typedef | param ";" | routine | ";"`
     Item(Item),
+}
+
+impl Drop for Description {
+    fn drop(self) {
+        match self {
+            Description::Module(_) => {}
+            Description::Program(_) => {}
+            Description::Item(_) => {}
+        }
+    }
 }
