@@ -1,17 +1,15 @@
 -- What is read of lists, repetitions and options of a part, by what is known of the part.
-use Rattle.std.proofs.Common.{◌≡◌, ℕ, true, false, List, [], ◌∷◌, ◌++◌, Option, Some, None, Ok, Err, refl, sym, ap, ◌∙◌}
+use Rattle.std.proofs.Common.{◌≡◌, ℕ, true, false, List, [], ◌∷◌, ◌++◌, Some, None, Ok, Err, refl}
 use Rattle.sv_grammar.specs.Tokens.{Tok, next, mem}
-use Rattle.sv_grammar.specs.Info.{Info}
 use Rattle.sv_grammar.specs.Language.{Out}
 use Rattle.sv_grammar.specs.Reading.{◌>>=◌}
-use Rattle.sv_grammar.specs.Code.{fine, info, least, list_from}
-use Rattle.sv_grammar.specs.Code.Code.{Rep, Map}
+use Rattle.sv_grammar.specs.Code.{list_from}
 use Rattle.sv_tree.specs.declared.kind.Kind.TheVariants as k
 use Rattle.sv_tree.specs.Codes.{code}
-use Rattle.sv_tree.specs.Forms.{Production, Value, C, comma, commas, list, list_or_none, optional}
-use Rattle.sv_tree.specs.Grammar.{heads, need, table, reads}
+use Rattle.sv_tree.specs.Forms.{C, comma, commas, list, optional}
+use Rattle.sv_tree.specs.Grammar.{reads}
 use Rattle.sv_parse.specs.Parts.{IsKnown, IsListed, IsRepeated, from}
-use Rattle.sv_parse.proofs.Loops.{IsLoop, loop_is, loop_stop}
+use Rattle.sv_parse.proofs.Loops.{IsLoop}
 
 -- a first one and others, read one after the other
 in_front : {A : Type 0} (x : A) (o : Out (List A)) → (◌>>=◌ {A = A × List A} {B = List A} (◌>>=◌ {B = A × List A} o (λ y. Ok ((x, y.0), y.1))) (λ p. Ok (p.0.0 ∷ p.0.1, p.1))) ≡ (◌>>=◌ {B = List A} o (λ xs. Ok ((x ∷ []) ++ xs.0, xs.1)))

@@ -3,7 +3,6 @@ use Rattle.std.specs.Prelude.{◌≡◌, ℕ, Bool, true, false, List, [], ◌�
 use Rattle.sv_grammar.specs.Tokens.{Tok, disjoint, mem, next}
 use Rattle.sv_grammar.specs.Language.{Out}
 use Rattle.sv_grammar.specs.Code.{fine, info, least, list_from}
-use Rattle.sv_grammar.specs.Code.Code.{Rep}
 use Rattle.sv_tree.specs.declared.kind.Kind.TheVariants as k
 use Rattle.sv_tree.specs.Codes.{code}
 use Rattle.sv_tree.specs.Forms.{Production, Value, C}

@@ -14,13 +14,15 @@ mod budget;
 mod fault;
 mod names;
 mod part;
+#[cfg(test)]
+mod tests;
 mod tokens;
 mod word;
 mod words;
 
 pub use budget::Budget;
 pub use fault::{SyntaxFault, SyntaxKind, fault_of};
-pub use names::{label, name, name_of};
+pub use names::{Names, label, name, name_of};
 pub use part::{Listed, Part, Repeated, begins, items, list, list_after, list_or_none, maybe};
-pub use tokens::{Read, ReadError, code_of, expect, is_next, next_kind};
+pub use tokens::{Read, ReadError, code_of, expect, is_next, next_kind, skip};
 pub use word::{Word, expect_word, is_next_word, maybe_word, word_or};

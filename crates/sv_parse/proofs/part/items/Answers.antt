@@ -1,12 +1,9 @@
-use Rattle.std.proofs.Common.{◌≡◌, rules, List, [], ◌∷◌, map, refl, sym, ◌∙◌}
+use Rattle.std.proofs.Common.{rules, map, refl, sym, ◌∙◌}
 use Rattle.std.proofs.lemmas.Result.{err_from_is_err_and}
 use Rattle.std.proofs.lemmas.List.{map_push}
 use Rattle.sv_grammar.specs.Code.Code.{Rep}
-use Rattle.sv_tree.specs.declared.kind.Kind.TheVariants as k
-use Rattle.sv_tree.specs.Codes.{code, toks}
-use Rattle.sv_tree.specs.Forms.{comma}
+use Rattle.sv_tree.specs.Codes.{toks}
 use Rattle.sv_tree.specs.Grammar.{reads}
-use Rattle.sv_parse.specs.Parts.{from}
 use Rattle.sv_parse.proofs.Loops.{loop_is, loop_stop, loop_ends, loop_goes_on, loop_shorter}
 use Rattle.sv_parse.proofs.PartLaws.{repeated_loop}
 use Rattle.sv_parse.proofs.part.items.Goals as goal

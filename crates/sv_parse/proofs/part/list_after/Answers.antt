@@ -1,13 +1,11 @@
-use Rattle.std.proofs.Common.{◌≡◌, rules, List, [], ◌∷◌, map, refl, sym, ◌∙◌}
+use Rattle.std.proofs.Common.{rules, [], ◌∷◌, map, refl, sym, ◌∙◌}
 use Rattle.std.proofs.lemmas.Result.{err_from_is_err_and}
 use Rattle.std.proofs.lemmas.List.{map_push}
-use Rattle.sv_grammar.specs.Code.Code.{Rep}
 use Rattle.sv_tree.specs.declared.kind.Kind.TheVariants as k
 use Rattle.sv_tree.specs.Codes.{code, toks}
 use Rattle.sv_tree.specs.Forms.{comma}
-use Rattle.sv_tree.specs.Grammar.{reads}
 use Rattle.sv_parse.specs.Parts.{from}
-use Rattle.sv_parse.proofs.Loops.{loop_is, loop_stop, loop_ends, loop_goes_on, loop_shorter}
+use Rattle.sv_parse.proofs.Loops.{loop_stop, loop_ends, loop_goes_on, loop_shorter}
 use Rattle.sv_parse.proofs.PartLaws.{listed_loop}
 use Rattle.sv_parse.proofs.part.list_after.Goals as goal
 
