@@ -7,7 +7,10 @@ use Rattle.sv_grammar.specs.Language.{Out, TooDeep, Unexpected}
 use Rattle.sv_tree.specs.declared.token.Refused.{Refused}
 use Rattle.sv_tree.specs.declared.token.Refused.TheVariants as refused
 use Rattle.sv_tree.specs.declared.kind.Kind.TheVariants as k
+use Rattle.sv_tree.specs.declared.word.BinaryWord.TheVariants as binary_word
+use Rattle.sv_tree.specs.declared.expr.Root.TheVariants as root
 use Rattle.sv_tree.specs.Codes.{toks}
+use Rattle.sv_tree.specs.Expr as tree
 use Rattle.sv_tree.specs.Forms.{C}
 use Rattle.sv_tree.specs.Depth.{most_depth}
 use Rattle.sv_tree.specs.Grammar.{reads}
@@ -100,3 +103,49 @@ statements =
 statement_rows : map (λ x. outcome 2 stmt x.0) statements ≡ map (λ x. x.1) statements
 unfolding longest spelled is_one is_after is_name is_system_name is_plain_number is_filling_number is_decimal_body is_base is_signed_base is_based_number is_size_rest is_sized_number is_number is_unit is_time_rest is_time is_one_step is_string_rest is_string is_spelled words signs unused plain_word kind_of_name kind_of after_word after_some_spaces after_end_of_word power_at magnitude_at unit_at scale_at timescale_at nettype_at is_blank is_line_comment is_comment_rest is_comment is_separator is_token no_token token_piece directive_piece piece_at after start with_piece reading comma_expr inner_exprs select suffix suffixes post_rest named_post this_post super_post post targets lval system_call super_call call closed cast number time text null_ dollar group named this repeated braces word_cast plain_prim prim prefixed unary levels expr_over expr plain_unary plain_expr cast_rest arguments range enum_item enum vector_type atom_type mailbox_type word_type named_type type unnamed_implied named_name typed_name dimension_inside dimension new_rest init declarator_rest declarator declarators more_declarators life_decl var_decl plain_decl word_decl named_decl_rest enclosed amount delay cycles_amount event_part next_event_part event_parts event_list event blocking_rest nonblocking_rest operator_rest step_after assign_end post_end named_rest super_rest super_statement early_rest early block_items block_rest fork_rest block fork else_ if_rest if_ default_item labelled_item case_item case_rest case_ for_step_rest for_step_before for_step for_init_rest unnamed_lval for_init for_ while_ do_rest do_ repeat forever foreach after_delay on_event cycles wait_rest wait ignore return_ null_statement step_statement system_statement this_statement targets_statement disable trigger break_ continue_ unnamed body named_statement stmt param_item param element_param element_params directed_port plain_port next_port ports typedef_rest typedef argument unit_arguments called function_head task_head head routine_name routine_end routine skew_rest skew default_skew output_side input_side sides default_skews clocking_item clocking_rest plain_clocking default_rest default_clocking clocking automatic_decl class_decl member pure_method qualified class_item class_rest virtual_class plain_class class named_items initial common named_decl program_item given dotted connection connections instance instances_rest decl_rest second_named valued_instances named_item_rest named_item net_item net_word net assign_item assign always module_item element_head module_element program_element description file
 statement_rows = refl
+
+-- ---- trees
+
+-- the tree that is read at the greatest depth
+abbrev tree_of : {A : Type 0} → C A → List ℕ → Option A
+tree_of {A} c text = given (reads most_depth c (toks (whole 0 text).tokens))
+  where
+    given : Out A → Option A
+    given (Ok x) = Some x.0
+    given (Err m) = None
+
+-- a name alone
+abbrev alone : List ℕ → ℕ → tree.Expr
+alone text col = tree.Expr.Post (root.Plain (record { at = at 1 col; text = text })) tree.NoSuffix
+
+abbrev a : tree.Expr
+a = alone (codes "a") 1
+
+abbrev b : tree.Expr
+b = alone (codes "b") 3
+
+abbrev c : tree.Expr
+c = alone (codes "c") 5
+
+abbrev expressions : List (List ℕ × Option tree.Expr)
+expressions =
+    (codes "a+b*c", Some (tree.Binary binary_word.Plus (at 1 2) a (tree.Binary binary_word.Multiply (at 1 4) b c))) ∷
+    (codes "a*b+c", Some (tree.Binary binary_word.Plus (at 1 4) (tree.Binary binary_word.Multiply (at 1 2) a b) c)) ∷
+    (codes "a-b-c", Some (tree.Binary binary_word.Minus (at 1 4) (tree.Binary binary_word.Minus (at 1 2) a b) c)) ∷
+    (codes "a|b&c", Some (tree.Binary binary_word.Or (at 1 2) a (tree.Binary binary_word.And (at 1 4) b c))) ∷
+    (codes "a?b:c", Some (tree.Choose a b c)) ∷
+    (codes "$f", Some (tree.System (record { at = at 1 1; text = codes "$f" }) tree.Unwritten)) ∷
+    (codes "$f()", Some (tree.System (record { at = at 1 1; text = codes "$f" }) (tree.Written tree.NoExpr))) ∷ []
+
+expression_rows : map (λ x. tree_of expr x.0) expressions ≡ map (λ x. x.1) expressions
+unfolding longest spelled is_one is_after is_name is_system_name is_plain_number is_filling_number is_decimal_body is_base is_signed_base is_based_number is_size_rest is_sized_number is_number is_unit is_time_rest is_time is_one_step is_string_rest is_string is_spelled words signs unused plain_word kind_of_name kind_of after_word after_some_spaces after_end_of_word power_at magnitude_at unit_at scale_at timescale_at nettype_at is_blank is_line_comment is_comment_rest is_comment is_separator is_token no_token token_piece directive_piece piece_at after start with_piece reading comma_expr inner_exprs select suffix suffixes post_rest named_post this_post super_post post targets lval system_call super_call call closed cast number time text null_ dollar group named this repeated braces word_cast plain_prim prim prefixed unary levels expr_over expr plain_unary plain_expr cast_rest arguments
+expression_rows = refl
+
+abbrev amounts : List (List ℕ × Option tree.Expr)
+amounts =
+    (codes "10ns", Some (tree.Time (at 1 1) (codes "10ns"))) ∷
+    (codes "(10ns)", Some (tree.Group (at 1 1) (tree.Time (at 1 2) (codes "10ns")))) ∷ []
+
+amount_rows : map (λ x. tree_of amount x.0) amounts ≡ map (λ x. x.1) amounts
+unfolding longest spelled is_one is_after is_name is_system_name is_plain_number is_filling_number is_decimal_body is_base is_signed_base is_based_number is_size_rest is_sized_number is_number is_unit is_time_rest is_time is_one_step is_string_rest is_string is_spelled words signs unused plain_word kind_of_name kind_of after_word after_some_spaces after_end_of_word power_at magnitude_at unit_at scale_at timescale_at nettype_at is_blank is_line_comment is_comment_rest is_comment is_separator is_token no_token token_piece directive_piece piece_at after start with_piece reading comma_expr inner_exprs select suffix suffixes post_rest named_post this_post super_post post targets lval system_call super_call call closed cast number time text null_ dollar group named this repeated braces word_cast plain_prim prim prefixed unary levels expr_over expr plain_unary plain_expr cast_rest arguments enclosed amount
+amount_rows = refl

@@ -1,4 +1,4 @@
--- The depth of a tree: the statements, the operators and the pairs of brackets on a path (own).
+-- The depth of an expression: the operators and the pairs of brackets on a path; and the greatest depth of a tree (own).
 use Rattle.std.specs.Prelude.{ℕ, suc}
 use Rattle.sv_grammar.specs.Code.{larger}
 use Rattle.sv_tree.specs.Expr as tree

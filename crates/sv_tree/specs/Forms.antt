@@ -16,7 +16,7 @@ use Rattle.sv_tree.specs.Stmt as stmts
 -- the productions that stand inside others, one deeper
 pub data Production : Type 0 where
   Expression : Production
-  -- what the operators of a precedence stand between: the operators that bind more strongly, over operands
+  -- the right operand of an operator of this precedence: it holds operators that bind more strongly
   Level : Precedence → Production
   Arguments : Production
   Repeated : Production
