@@ -1,31 +1,12 @@
 // What begins with the next token.
-
 ghost use Rattle.std.specs.Prelude.{◌≡◌};
 ghost use Rattle.sv_grammar.specs.Tokens.{mem, next};
 ghost use Rattle.sv_tree.specs.Codes.{code, toks};
 ghost use Rattle.sv_tree.specs.Grammar.{expr_first, prim_first};
-ghost use Rattle.sv_parse_expr.specs.Chains.{suffix_first, cast_first, post_first};
+ghost use Rattle.sv_parse_expr.specs.First.{cast_first, post_first, suffix_first};
 
-use crate::words::unary_word;
-use sv_tree::{Kind, Token};
-
-/// Whether an expression begins with a kind.
-#[tactic(auto, using(crate::proofs::Parts::mem_both))]
-fn expr_first(kind: Kind) -> bool
-    ensures { result ≡ mem (code kind) expr_first }
-{
-    unary_word(kind).is_some() || prim_first(kind)
-}
-
-/// Whether an expression begins with the next token.
-pub fn begins_expr(tokens: &[Token]) -> bool
-    ensures { result ≡ mem (next (toks tokens.now)).code expr_first }
-{
-    match tokens {
-        [] => false,
-        [first, ..] => expr_first(first.kind),
-    }
-}
+use sv_parse::{Word, is_next_word};
+use sv_tree::{Kind, Token, UnaryWord};
 
 /// Whether an operand without an operator before it begins with a kind.
 fn prim_first(kind: Kind) -> bool
@@ -60,21 +41,22 @@ fn prim_first(kind: Kind) -> bool
     )
 }
 
-/// Whether an operand without an operator before it begins with the next token.
-pub fn begins_prim(tokens: &[Token]) -> bool
-    ensures { result ≡ mem (next (toks tokens.now)).code prim_first }
+/// Whether an expression begins with a kind.
+#[tactic(auto, using(sv_parse::proofs::ExprParts::mem_both))]
+pub fn expr_first(kind: Kind) -> bool
+    ensures { result ≡ mem (code kind) expr_first }
+{
+    UnaryWord::of(kind).is_some() || prim_first(kind)
+}
+
+/// Whether an expression begins with the next token.
+pub fn begins_expr(tokens: &[Token]) -> bool
+    ensures { result ≡ mem (next (toks tokens.now)).code expr_first }
 {
     match tokens {
         [] => false,
-        [first, ..] => prim_first(first.kind),
+        [first, ..] => expr_first(first.kind),
     }
-}
-
-/// Whether a member, arguments or a select begins with a kind.
-fn suffix_first(kind: Kind) -> bool
-    ensures { result ≡ mem (code kind) suffix_first }
-{
-    matches!(kind, Kind::Dot | Kind::LeftParenthesis | Kind::LeftBracket)
 }
 
 /// Whether a member, arguments or a select begins with the next token.
@@ -83,11 +65,14 @@ pub fn begins_suffix(tokens: &[Token]) -> bool
 {
     match tokens {
         [] => false,
-        [first, ..] => suffix_first(first.kind),
+        [first, ..] => matches!(
+            first.kind,
+            Kind::Dot | Kind::LeftParenthesis | Kind::LeftBracket
+        ),
     }
 }
 
-/// Whether a cast to the type of a word begins with a kind.
+/// Whether a kind is a word of a type that may be cast to.
 fn cast_first(kind: Kind) -> bool
     ensures { result ≡ mem (code kind) cast_first }
 {
@@ -109,7 +94,7 @@ fn cast_first(kind: Kind) -> bool
     )
 }
 
-/// Whether a cast to the type of a word begins with the next token.
+/// Whether a word of a type that may be cast to comes next.
 pub fn begins_cast(tokens: &[Token]) -> bool
     ensures { result ≡ mem (next (toks tokens.now)).code cast_first }
 {
@@ -119,19 +104,12 @@ pub fn begins_cast(tokens: &[Token]) -> bool
     }
 }
 
-/// Whether a name with what follows it begins with a kind.
-fn post_first(kind: Kind) -> bool
-    ensures { result ≡ mem (code kind) post_first }
-{
-    matches!(kind, Kind::Name | Kind::This | Kind::Super)
-}
-
-/// Whether a name with what follows it begins with the next token.
+/// Whether a name with what follows it comes next.
 pub fn begins_post(tokens: &[Token]) -> bool
     ensures { result ≡ mem (next (toks tokens.now)).code post_first }
 {
     match tokens {
         [] => false,
-        [first, ..] => post_first(first.kind),
+        [first, ..] => matches!(first.kind, Kind::Name | Kind::This | Kind::Super),
     }
 }
