@@ -1,3 +1,4 @@
 pub mod Loops
 pub mod PartLaws
+pub mod TypeParts
 pub mod ExprParts
