@@ -1,4 +1,6 @@
 pub mod Loops
 pub mod PartLaws
-pub mod TypeParts
 pub mod ExprParts
+pub mod TypeParts
+pub mod StmtParts
+pub mod UnitParts

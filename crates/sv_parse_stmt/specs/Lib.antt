@@ -1,6 +1,2 @@
-pub mod Casts
-pub mod Begins
-pub mod Applied
-pub mod Starts
-pub mod Fronts
-pub mod Items
+pub mod Blocks
+pub mod Whole

@@ -1,7 +1,0 @@
-use Rattle.std.proofs.Common.{rules}
-use Rattle.sv_tree.specs.declared.statement.Body.{the_lemmas}
-use Rattle.sv_tree.specs.StmtView.{arms_are}
-use Rattle.sv_parse_stmt.proofs.ends.case_of.Goals as goal
-
-pub returns : goal.returns
-returns c = search (the_lemmas, arms_are, rules)

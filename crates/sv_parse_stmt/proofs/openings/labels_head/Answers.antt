@@ -1,6 +1,0 @@
-use Rattle.sv_tree.specs.Codes.{tok, toks}
-use Rattle.sv_parse_stmt.proofs.Arms.{labels_follow}
-use Rattle.sv_parse_stmt.proofs.openings.labels_head.Goals as goal
-
-pub returns : goal.returns
-returns c = labels_follow c.args.budget (toks c.args.tokens.now) c.in_ok-labels.labels.items (toks c.in_ok-labels.rest.now) (tok c.in_ok-rest.field-0-0.now, toks c.in_ok-rest.rest.now) c.in_ok-labels.ensures c.in_ok-rest.ensures
