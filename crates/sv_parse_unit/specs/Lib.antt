@@ -1,3 +1,4 @@
-pub mod Begins
+pub mod First
 pub mod Views
 pub mod Files
+pub mod Written
