@@ -1,6 +1,6 @@
 -- What is known of the productions of expressions: with one token of look-ahead each is read rightly, what begins it, and the
 -- least depth of its trees.
-use Rattle.std.proofs.Common.{◌≡◌, true, false, List, [], ◌∷◌, ◌++◌, refl}
+use Rattle.std.proofs.Common.{◌≡◌, true, false, [], ◌∷◌, ◌++◌, refl}
 use Rattle.sv_grammar.specs.Code.{fine}
 use Rattle.sv_grammar.specs.Code.Code.{Chain, Rep}
 use Rattle.sv_tree.specs.declared.kind.Kind.TheVariants as k

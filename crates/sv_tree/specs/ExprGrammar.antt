@@ -40,7 +40,11 @@ atom_words = (k.Byte, atom_word.Byte) ∷ (k.Shortint, atom_word.Shortint) ∷ (
 
 -- the operators before an operand
 abbrev pub unary_words : Words UnaryWord
-unary_words = (k.Plus, unary_word.Plus) ∷ (k.Minus, unary_word.Minus) ∷ (k.Not, unary_word.Not) ∷ (k.Tilde, unary_word.Invert) ∷ (k.Ampersand, unary_word.And) ∷ (k.TildeAmpersand, unary_word.Nand) ∷ (k.Bar, unary_word.Or) ∷ (k.TildeBar, unary_word.Nor) ∷ (k.Caret, unary_word.Xor) ∷ (k.TildeCaret, unary_word.Xnor) ∷ (k.CaretTilde, unary_word.Xnor) ∷ []
+unary_words =
+    (k.Plus, unary_word.Plus) ∷ (k.Minus, unary_word.Minus) ∷ (k.Not, unary_word.Not) ∷ (k.Tilde, unary_word.Invert) ∷
+    (k.Ampersand, unary_word.And) ∷ (k.TildeAmpersand, unary_word.Nand) ∷ (k.Bar, unary_word.Or) ∷
+    (k.TildeBar, unary_word.Nor) ∷ (k.Caret, unary_word.Xor) ∷ (k.TildeCaret, unary_word.Xnor) ∷
+    (k.CaretTilde, unary_word.Xnor) ∷ []
 
 -- the binary operators of each precedence (Table 11-2)
 abbrev pub binary_words : Precedence → Words BinaryWord
@@ -68,7 +72,9 @@ stronger precedence.And = precedence.Equality ∷ precedence.Relational ∷ prec
 stronger precedence.Xor = precedence.And ∷ precedence.Equality ∷ precedence.Relational ∷ precedence.Shift ∷ precedence.Additive ∷ precedence.Multiplicative ∷ precedence.Power ∷ []
 stronger precedence.Or = precedence.Xor ∷ precedence.And ∷ precedence.Equality ∷ precedence.Relational ∷ precedence.Shift ∷ precedence.Additive ∷ precedence.Multiplicative ∷ precedence.Power ∷ []
 stronger precedence.LogicalAnd = precedence.Or ∷ precedence.Xor ∷ precedence.And ∷ precedence.Equality ∷ precedence.Relational ∷ precedence.Shift ∷ precedence.Additive ∷ precedence.Multiplicative ∷ precedence.Power ∷ []
-stronger precedence.LogicalOr = precedence.LogicalAnd ∷ precedence.Or ∷ precedence.Xor ∷ precedence.And ∷ precedence.Equality ∷ precedence.Relational ∷ precedence.Shift ∷ precedence.Additive ∷ precedence.Multiplicative ∷ precedence.Power ∷ []
+stronger precedence.LogicalOr =
+    precedence.LogicalAnd ∷ precedence.Or ∷ precedence.Xor ∷ precedence.And ∷ precedence.Equality ∷
+    precedence.Relational ∷ precedence.Shift ∷ precedence.Additive ∷ precedence.Multiplicative ∷ precedence.Power ∷ []
 
 -- all, the weakest first
 abbrev pub precedences : List Precedence
@@ -286,7 +292,7 @@ plain_unary = Alt prefixed plain_prim
 unfoldable pub plain_expr : C tree.Expr
 plain_expr = expr_over plain_unary
 
--- the cast at the very front of an expression is one to c
+-- the cast that an expression begins with is one to c
 abbrev pub with_cast : CastType → tree.Expr → tree.Expr
 with_cast c (tree.Cast d e) = tree.Cast c e
 with_cast c (tree.Binary w at a b) = tree.Binary w at (with_cast c a) b

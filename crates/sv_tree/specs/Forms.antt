@@ -23,7 +23,7 @@ pub data Production : Type 0 where
   Target : Production
   A_type : Production
   Statement : Production
-  -- what follows the name at the front of a statement
+  -- what follows the name that a statement begins with
   Named : Production
   -- a statement that begins with no name
   Unnamed : Production

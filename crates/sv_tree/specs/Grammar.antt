@@ -29,7 +29,10 @@ table Unnamed = unnamed
 
 -- what begins an operand without an operator before it
 abbrev pub prim_first : List ℕ
-prim_first = codes_of (k.Number ∷ k.TimeLiteral ∷ k.StringLiteral ∷ k.Null ∷ k.Dollar ∷ k.LeftParenthesis ∷ k.Name ∷ k.This ∷ k.Super ∷ k.SystemName ∷ k.LeftBrace ∷ k.Bit ∷ k.Logic ∷ k.Reg ∷ k.Byte ∷ k.Shortint ∷ k.Int ∷ k.Longint ∷ k.Integer ∷ k.Time ∷ k.String ∷ k.Event ∷ k.Semaphore ∷ k.Mailbox ∷ [])
+prim_first =
+    codes_of (k.Number ∷ k.TimeLiteral ∷ k.StringLiteral ∷ k.Null ∷ k.Dollar ∷ k.LeftParenthesis ∷ k.Name ∷ k.This ∷
+    k.Super ∷ k.SystemName ∷ k.LeftBrace ∷ k.Bit ∷ k.Logic ∷ k.Reg ∷ k.Byte ∷ k.Shortint ∷ k.Int ∷ k.Longint ∷
+    k.Integer ∷ k.Time ∷ k.String ∷ k.Event ∷ k.Semaphore ∷ k.Mailbox ∷ [])
 
 -- what begins an expression
 abbrev pub expr_first : List ℕ
@@ -50,9 +53,12 @@ type_words = k.Logic ∷ k.Bit ∷ k.Reg ∷ k.String ∷ k.Event ∷ k.Byte ∷
 
 -- what begins a statement without a label that begins with no name
 abbrev pub unnamed_first : List ℕ
-unnamed_first = codes_of (k.SystemName ∷ k.Void ∷ k.Begin ∷ k.Fork ∷ k.If ∷ k.Case ∷ k.Casez ∷ k.Casex ∷ k.For ∷ k.While ∷ k.Do ∷ k.Repeat ∷ k.Forever ∷ k.Foreach ∷ k.Wait ∷ k.Disable ∷ k.Break ∷ k.Continue ∷ k.Return ∷ k.This ∷ k.Super ∷ k.Semicolon ∷ k.LeftBrace ∷ k.Hash ∷ k.HashHash ∷ k.At ∷ k.Arrow ∷ k.PlusPlus ∷ k.MinusMinus ∷ [])
+unnamed_first =
+    codes_of (k.SystemName ∷ k.Void ∷ k.Begin ∷ k.Fork ∷ k.If ∷ k.Case ∷ k.Casez ∷ k.Casex ∷ k.For ∷ k.While ∷ k.Do ∷
+    k.Repeat ∷ k.Forever ∷ k.Foreach ∷ k.Wait ∷ k.Disable ∷ k.Break ∷ k.Continue ∷ k.Return ∷ k.This ∷ k.Super ∷
+    k.Semicolon ∷ k.LeftBrace ∷ k.Hash ∷ k.HashHash ∷ k.At ∷ k.Arrow ∷ k.PlusPlus ∷ k.MinusMinus ∷ [])
 
--- what follows the name at the front of a statement
+-- what follows the name that a statement begins with
 abbrev pub named_first : List ℕ
 named_first = codes_of (k.Semicolon ∷ k.Colon ∷ k.LeftParenthesis ∷ k.LeftBracket ∷ k.Dot ∷ k.ColonColon ∷ k.Equals ∷ k.LessEquals ∷ k.PlusPlus ∷ k.MinusMinus ∷ []) ++ kinds_of assign_words
 

@@ -89,7 +89,13 @@ event =
 
 -- aop
 abbrev pub assign_words : Words BinaryWord
-assign_words = (k.PlusEquals, binary_word.Plus) ∷ (k.MinusEquals, binary_word.Minus) ∷ (k.StarEquals, binary_word.Multiply) ∷ (k.SlashEquals, binary_word.Divide) ∷ (k.PercentEquals, binary_word.Remainder) ∷ (k.AmpersandEquals, binary_word.And) ∷ (k.BarEquals, binary_word.Or) ∷ (k.CaretEquals, binary_word.Xor) ∷ (k.ShiftLeftEquals, binary_word.ShiftLeft) ∷ (k.ShiftRightEquals, binary_word.ShiftRight) ∷ (k.ShiftLeftSignedEquals, binary_word.ShiftLeftSigned) ∷ (k.ShiftRightSignedEquals, binary_word.ShiftRightSigned) ∷ []
+assign_words =
+    (k.PlusEquals, binary_word.Plus) ∷ (k.MinusEquals, binary_word.Minus) ∷ (k.StarEquals, binary_word.Multiply) ∷
+    (k.SlashEquals, binary_word.Divide) ∷ (k.PercentEquals, binary_word.Remainder) ∷
+    (k.AmpersandEquals, binary_word.And) ∷ (k.BarEquals, binary_word.Or) ∷ (k.CaretEquals, binary_word.Xor) ∷
+    (k.ShiftLeftEquals, binary_word.ShiftLeft) ∷ (k.ShiftRightEquals, binary_word.ShiftRight) ∷
+    (k.ShiftLeftSignedEquals, binary_word.ShiftLeftSigned) ∷ (k.ShiftRightSignedEquals, binary_word.ShiftRightSigned) ∷
+    []
 
 -- the operator of an assignment
 abbrev pub assign_word : Tok → BinaryWord
@@ -133,7 +139,7 @@ assign_end = Alt blocking_rest (Alt nonblocking_rest (Alt operator_rest step_aft
 unfoldable pub post_end : C (Root × tree.Suffixes → stmts.Body)
 post_end = Alt (Map (λ f p. f (tree.Lval.Post p.0 p.1)) assign_end) (Map (λ t p. stmts.Call (tree.Expr.Post p.0 p.1)) (tok k.Semicolon))
 
--- what follows the name at the front of an assignment or a call
+-- what follows the name that an assignment or a call begins with
 unfoldable pub named_rest : C (Name → stmts.Body)
 named_rest = triple (λ m s f n. f (named_root n m, s)) scoped suffixes post_end
 
@@ -173,7 +179,7 @@ stmts_of (Made s ∷ is) = stmts.AndStmt s (stmts_of is)
 abbrev pub unlabelled : Placed → stmts.Stmt
 unlabelled p = stmts.Statement p.at None p.body
 
--- what follows a name at the front of an item: a name that a name follows is the type of a declaration
+-- what follows the name that an item begins with: a name that a name follows is the type of a declaration
 unfoldable pub early_rest : C (Tok → BlockItem)
 early_rest = Alt (Map (λ f t. Declared (f (name_of t))) named_decl_rest) (Map (λ f t. Made (f t)) (Inner Named))
 
@@ -271,7 +277,7 @@ for_step_before = pair (λ t l. stmts.ForStep.Step t.at l (step_word_of t)) (wor
 unfoldable pub for_step : C stmts.ForStep
 for_step = Alt (pair (λ l f. f l (place_of_target l)) lval for_step_rest) for_step_before
 
--- what follows a name at the front: id "=" expr, or the rest of a target and "=" expr
+-- what follows the name that it begins with: id "=" expr, or the rest of a target and "=" expr
 unfoldable pub for_init_rest : C (Name → stmts.ForInit)
 for_init_rest = Alt (pair (λ n e t. stmts.Declare (types.Named t) n e) name (k.Equals ▸ expr)) (triple (λ m s e n. stmts.ForInit.Assign (tree.Lval.Post (named_root n m) s) e) scoped suffixes (k.Equals ▸ expr))
 
@@ -415,7 +421,7 @@ named_body = pair (λ t f. placed t.at (f (name_of t))) (tok k.Name) named_rest
 unfoldable pub body : C Placed
 body = Alt named_body unnamed
 
--- a name at the front is a label, a target or a call
+-- the name that a statement begins with is a label, a target or a call
 unfoldable pub named_statement : C (Tok → stmts.Stmt)
 named_statement = Alt (Map (λ p t. stmts.Statement p.at (Some (name_of t)) p.body) (k.Colon ▸ body)) (Map (λ f t. stmts.Statement t.at None (f (name_of t))) named_rest)
 

@@ -365,7 +365,7 @@ second_named = Alt instances_rest decl_rest
 unfoldable pub valued_instances : C (Name → items.Item)
 valued_instances = pair (λ cs is u. instances_of u cs is) (k.Hash ▸ in_parentheses (list connection)) (list instance ◂ k.Semicolon)
 
--- what follows a name at the front of an item of a module
+-- what follows the name that an item of a module begins with
 unfoldable pub named_item_rest : C (Name → items.Item)
 named_item_rest = Alt valued_instances (pair (λ n f u. f u n) name second_named)
 
