@@ -1,5 +1,4 @@
 -- What the values of the readers stand for.
-use Rattle.std.specs.Prelude.{◌×◌}
 use Rattle.sv_tree.specs.declared.expr.Root.{Root}
 use Rattle.sv_tree.specs.Expr as tree
 use Rattle.sv_tree.specs.View.{suffix_list}

@@ -1,5 +1,5 @@
 -- What the values of the code stand for.
-use Rattle.std.specs.Prelude.{◌×◌, List, Option, option_map}
+use Rattle.std.specs.Prelude.{List, Option, option_map}
 use Rattle.sv_tree.specs.declared.word.Name.{Name}
 use Rattle.sv_tree.specs.Classes as classes
 use Rattle.sv_tree.specs.Items as items
@@ -9,7 +9,7 @@ use Rattle.sv_tree.specs.StmtView.{implied}
 use Rattle.sv_tree.specs.UnitView as view
 use Rattle.sv_parse.specs.Outcome.{seen}
 use Rattle.sv_parse_unit.specs.declared.typed.TypedName.{TypedName}
-use Rattle.sv_parse_unit.specs.declared.routines.Called.{Called}
+use Rattle.sv_parse_unit.specs.declared.routines.FunctionName.{FunctionName}
 use Rattle.sv_parse_unit.specs.declared.typedefs.TypeName.{TypeName}
 use Rattle.sv_parse_unit.specs.declared.typedefs.TypeName.TheVariants as type_names
 use Rattle.sv_parse_unit.specs.declared.elements.ElementHead.{ElementHead}
@@ -29,7 +29,7 @@ typedef_class_item (type_names.Defined t) = classes.Typedef (view.typedef t.valu
 typedef_class_item (type_names.Announced n) = classes.Announce n
 
 -- what a function gives, and its name
-abbrev pub called : Called → units.Returns × Name
+abbrev pub called : FunctionName → units.Returns × Name
 called c = (view.returns c.returns, c.name)
 
 -- the parameters and the ports of a design element

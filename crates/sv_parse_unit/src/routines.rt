@@ -82,7 +82,7 @@ fn maybe_arguments<'a>(alloc: Global, tokens: &'a [Token], budget: Budget) -> Re
 
 /// What a function gives, and its name.
 #[derive(Drop)]
-pub struct Called {
+pub struct FunctionName {
     pub returns: Returns,
     pub name: Name,
 }
@@ -98,24 +98,24 @@ fn new_name(alloc: Global, word: &Token) -> Result<Name, NoMemory>
 
 /// `"new" | ["void" | itype] id`
 #[tactic(auto, using(crate::proofs::RoutineLaws::called_new, crate::proofs::RoutineLaws::called_void, crate::proofs::RoutineLaws::called_typed))]
-fn called<'a>(alloc: Global, tokens: &'a [Token], budget: Budget) -> Read<'a, Called>
+fn called<'a>(alloc: Global, tokens: &'a [Token], budget: Budget) -> Read<'a, FunctionName>
     ensures { Reads called budget grammar.called tokens.now result }
 {
     if is_next(tokens, Kind::New) {
         let (word, rest) = expect(tokens, Kind::New)?;
         let name = new_name(alloc, word)?;
         let returns = Returns::Value(ImpliedType::Unwritten);
-        return Ok((Called { returns, name }, rest));
+        return Ok((FunctionName { returns, name }, rest));
     }
     if is_next(tokens, Kind::Void) {
         let (_, rest) = expect(tokens, Kind::Void)?;
         let (name, rest) = name(alloc, rest)?;
         let returns = Returns::Void;
-        return Ok((Called { returns, name }, rest));
+        return Ok((FunctionName { returns, name }, rest));
     }
     let (TypedName { of, name }, rest) = typed_name(alloc, tokens, budget)?;
     let returns = Returns::Value(of);
-    Ok((Called { returns, name }, rest))
+    Ok((FunctionName { returns, name }, rest))
 }
 
 /// `"function" [life] ("new" | ["void" | itype] id) [args]`
@@ -125,7 +125,7 @@ fn function_head<'a>(alloc: Global, tokens: &'a [Token], budget: Budget) -> Read
 {
     let (word, rest) = expect(tokens, Kind::Function)?;
     let (life, rest) = word_or::<Life>(rest, Life::Unwritten);
-    let (Called { returns, name }, rest) = called(alloc, rest, budget)?;
+    let (FunctionName { returns, name }, rest) = called(alloc, rest, budget)?;
     let (arguments, rest) = maybe_arguments(alloc, rest, budget)?;
     let head = Head {
         at: word.at,
