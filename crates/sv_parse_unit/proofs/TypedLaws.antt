@@ -22,7 +22,7 @@ implied_word d ts h = rw (known.word_type_known.info_is, h, known.word_type_know
 
 pub implied_sign : (d : ℕ) (ts : List Tok) → mem (next ts).code word_type_first ≡ false → mem (next ts).code (kinds_of sign_words) ≡ true → reads d unnamed_implied ts ≡ reads d (pair signed_of (word sign_words) (optional range)) ts
 unfolding unnamed_implied
-implied_sign d ts h g = rw (known.word_type_known.info_is, h, g) refl
+implied_sign d ts h g = rw (known.word_type_known.info_is, h, g, known.range_known.low_is) refl
 
 pub implied_range : (d : ℕ) (ts : List Tok) → mem (next ts).code word_type_first ≡ false → mem (next ts).code (kinds_of sign_words) ≡ false → reads d unnamed_implied ts ≡ reads d (Map (λ r. types.ImpliedType.Vector r.at sign_word.Unwritten (Some r)) range) ts
 unfolding unnamed_implied
