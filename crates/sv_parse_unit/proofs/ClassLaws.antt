@@ -116,20 +116,32 @@ item_plain d ts h g i j = rw (known.pure_method_known.info_is, h, g, i, known.qu
 abbrev any_member : forms.C classes.ClassItem
 any_member = then_ (Rep (any_of qualifier_words)) member
 
-words_more : (d : ℕ) (t : Tok) (ts : List Tok) → mem t.code qualifier_first ≡ true → reads d (Rep (any_of qualifier_words)) (t ∷ ts) ≡ (reads d (Rep (any_of qualifier_words)) ts >>= λ xs. Ok (t ∷ xs.0, xs.1))
+words_more : (d : ℕ) (t : Tok) (ts : List Tok) → mem t.code qualifier_first ≡ true → reads d (Rep (any_of qualifier_words)) (t ∷ ts) ≡ (◌>>=◌ {B = List Tok} (reads d (Rep (any_of qualifier_words)) ts) (λ xs. Ok (t ∷ xs.0, xs.1)))
 unfolding list_from
 words_more d t ts h = loop_is (any_of qualifier_words) qualifier_first 0 words_loop d (t ∷ ts) ∙ loop_more (any_of qualifier_words) qualifier_first 0 words_loop d [] (t ∷ ts) (t, ts) h refl (rw h refl)
 
 words_none : (d : ℕ) (ts : List Tok) → mem (next ts).code qualifier_first ≡ false → reads d (Rep (any_of qualifier_words)) ts ≡ Ok ([], ts)
 words_none d ts h = loop_is (any_of qualifier_words) qualifier_first 0 words_loop d ts ∙ loop_stop (any_of qualifier_words) qualifier_first 0 words_loop d [] ts h
 
-qualified_member : (d : ℕ) (ts : List Tok) → mem (next ts).code qualifier_first ≡ true → reads d qualified ts ≡ reads d any_member ts
+one_word : (d : ℕ) (t : Tok) (ts : List Tok) → mem t.code qualifier_first ≡ true → reads d (any_of qualifier_words) (t ∷ ts) ≡ Ok (t, ts)
+one_word d t ts h = rw h refl
+
+qualified_one : (d : ℕ) (t : Tok) (ts : List Tok) → mem t.code qualifier_first ≡ true → reads d qualified (t ∷ ts) ≡ (reads d (Rep (any_of qualifier_words)) ts >>= λ y. reads d member y.1 >>= λ z. Ok (z.0 (t ∷ y.0), z.1))
 unfolding qualified
+qualified_one d t ts h =
+    triple_is (λ t ts (f : List Tok → classes.ClassItem). f (t ∷ ts)) (any_of qualifier_words) (Rep (any_of qualifier_words)) member d (t ∷ ts)
+    ∙ ap (λ (o : Out Tok). o >>= λ x. reads d (Rep (any_of qualifier_words)) x.1 >>= λ y. reads d member y.1 >>= λ z. Ok (z.0 (x.0 ∷ y.0), z.1)) (one_word d t ts h)
+
+member_one : (d : ℕ) (t : Tok) (ts : List Tok) → mem t.code qualifier_first ≡ true → reads d any_member (t ∷ ts) ≡ (◌>>=◌ {B = classes.ClassItem} (◌>>=◌ {B = List Tok} (reads d (Rep (any_of qualifier_words)) ts) (λ xs. Ok (t ∷ xs.0, xs.1))) (λ x. applied x.0 (reads d member x.1)))
+member_one d t ts h =
+    then_is (Rep (any_of qualifier_words)) member d (t ∷ ts)
+    ∙ ap (λ (o : Out (List Tok)). ◌>>=◌ {B = classes.ClassItem} o (λ x. applied x.0 (reads d member x.1))) (words_more d t ts h)
+
+qualified_member : (d : ℕ) (ts : List Tok) → mem (next ts).code qualifier_first ≡ true → reads d qualified ts ≡ reads d any_member ts
 qualified_member d [] h = absurd cc
-qualified_member d (t ∷ ts) h =
-    triple_is (λ t ts (f : List Tok → classes.ClassItem). f (t ∷ ts)) (any_of qualifier_words) (Rep (any_of qualifier_words)) member d (t ∷ ts) ∙ (rw h (go (reads d (Rep (any_of qualifier_words)) ts)) ∙ sym (then_is (Rep (any_of qualifier_words)) member d (t ∷ ts) ∙ rw (words_more d t ts h) refl))
+qualified_member d (t ∷ ts) h = qualified_one d t ts h ∙ (go (reads d (Rep (any_of qualifier_words)) ts) ∙ sym (member_one d t ts h))
   where
-    go : (o : Out (List Tok)) → (o >>= λ y. reads d member y.1 >>= λ z. Ok (z.0 (t ∷ y.0), z.1)) ≡ ((o >>= λ xs. Ok (t ∷ xs.0, xs.1)) >>= λ x. applied x.0 (reads d member x.1))
+    go : (o : Out (List Tok)) → (o >>= λ y. reads d member y.1 >>= λ z. Ok (z.0 (t ∷ y.0), z.1)) ≡ (◌>>=◌ {B = classes.ClassItem} (◌>>=◌ {B = List Tok} o (λ xs. Ok (t ∷ xs.0, xs.1))) (λ x. applied x.0 (reads d member x.1)))
     go (Ok y) = refl
     go (Err m) = refl
 

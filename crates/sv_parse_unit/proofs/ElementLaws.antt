@@ -1,5 +1,5 @@
 -- Modules, programs and what else stands in a file: what each part begins with.
-use Rattle.std.proofs.Common.{◌≡◌, ℕ, true, false, List, [], ◌∷◌, ◌++◌, Some, None, Ok, Err, refl, ◌∙◌}
+use Rattle.std.proofs.Common.{◌≡◌, ℕ, Bool, true, false, List, [], ◌∷◌, ◌++◌, Some, None, Ok, Err, refl, ◌∙◌}
 use Rattle.sv_grammar.specs.Tokens.{Tok, next, mem}
 use Rattle.sv_grammar.specs.Language.{Out}
 use Rattle.sv_grammar.specs.Reading.{◌>>=◌}
@@ -17,10 +17,10 @@ use Rattle.sv_tree.specs.Items as items
 use Rattle.sv_tree.specs.Forms.{C, ◌▸◌, comma, commas, pair, optional, otherwise, tok, word, chosen, kinds_of}
 use Rattle.sv_tree.specs.ExprGrammar.{expr}
 use Rattle.sv_tree.specs.TypeGrammar.{typed_name}
-use Rattle.sv_tree.specs.UnitGrammar.{param_words, param_of, param_item_of, param_item, param, element_params, port_directions, directed_port, plain_port, next_port, ports, named_items, module_element, program_element, description}
+use Rattle.sv_tree.specs.UnitGrammar.{is_some, param_words, param_of, param_item_of, param_item, param, element_params, port_directions, directed_port, plain_port, next_port, ports, named_items, module_element, program_element, description}
 use Rattle.sv_tree.specs.Grammar.{reads}
 use Rattle.sv_tree.proofs.KnownItems as known
-use Rattle.sv_parse.specs.Parts.{from}
+use Rattle.sv_parse.specs.Parts.{from, if_next}
 use Rattle.sv_parse_unit.specs.First.{named_items_first}
 use Rattle.sv_parse_unit.proofs.AppliedLaws.{pair_is, quadruple_is}
 
@@ -31,7 +31,7 @@ pub behind : {A R : Type 0} (h : List A → R) (c : C A) (d : ℕ) (x : A) (ts :
 unfolding list_from
 behind {A = A} {R = R} h c d x ts = go (reads d (commas c) ts)
   where
-    go : (o : Out (List A)) → (o >>= λ y. Ok (h (x ∷ y.0), y.1)) ≡ (o >>= λ xs. Ok ((x ∷ []) ++ xs.0, xs.1) >>= λ y. Ok (h y.0, y.1))
+    go : (o : Out (List A)) → (◌>>=◌ {B = R} o (λ y. Ok (h (x ∷ y.0), y.1))) ≡ (◌>>=◌ {B = R} (◌>>=◌ {B = List A} o (λ xs. Ok ((x ∷ []) ++ xs.0, xs.1))) (λ y. Ok (h y.0, y.1)))
     go (Ok y) = refl
     go (Err m) = refl
 
@@ -60,6 +60,11 @@ pub params_none : (d : ℕ) (ts : List Tok) → mem (next ts).code (code k.Hash 
 params_none d ts h = rw (known.element_params_known.info_is, h) refl
 
 -- ---- ports
+
+-- a token is written where it is next
+pub written : (b : Bool) (ts : List Tok) → is_some (if_next b ts) ≡ b
+written true ts = refl
+written false ts = refl
 
 pub next_directed : (d : ℕ) (ts : List Tok) → mem (next ts).code (kinds_of port_directions) ≡ true → reads d next_port ts ≡ reads d directed_port ts
 unfolding next_port

@@ -35,15 +35,15 @@ items_typedef d ts h = rw (h, known_types.type_known.low_is) refl
 -- a class, by either of its words
 pub items_class : (d : ℕ) (ts : List Tok) → mem (next ts).code (code k.Typedef ∷ []) ≡ false → (mem (next ts).code (code k.Virtual ∷ []) || mem (next ts).code (code k.Class ∷ [])) ≡ true → reads d named_items ts ≡ reads d (Map items.Class class) ts
 unfolding named_items typedef typedef_rest
-items_class d ts h g = rw (h, known.class_known.info_is, mem_both (next ts).code (code k.Virtual ∷ []) (code k.Class ∷ []), g, known.class_known.low_is) refl
+items_class d ts h g = rw (h, known.class_known.info_is, known.class_known.low_is, mem_both (next ts).code (code k.Virtual ∷ []) (code k.Class ∷ []), g) refl
 
 pub items_param : (d : ℕ) (ts : List Tok) → mem (next ts).code (code k.Typedef ∷ []) ≡ false → (mem (next ts).code (code k.Virtual ∷ []) || mem (next ts).code (code k.Class ∷ [])) ≡ false → mem (next ts).code (kinds_of param_words) ≡ true → reads d named_items ts ≡ reads d (Map items.Param (param ◂ k.Semicolon)) ts
 unfolding named_items typedef typedef_rest
-items_param d ts h g i = rw (h, known.class_known.info_is, mem_both (next ts).code (code k.Virtual ∷ []) (code k.Class ∷ []), g, known.param_known.info_is, i, known.param_known.low_is) refl
+items_param d ts h g i = rw (h, known.class_known.info_is, known.class_known.low_is, mem_both (next ts).code (code k.Virtual ∷ []) (code k.Class ∷ []), g, known.param_known.info_is, i, known.param_known.low_is) refl
 
 pub items_routine : (d : ℕ) (ts : List Tok) → mem (next ts).code (code k.Typedef ∷ []) ≡ false → (mem (next ts).code (code k.Virtual ∷ []) || mem (next ts).code (code k.Class ∷ [])) ≡ false → mem (next ts).code (kinds_of param_words) ≡ false → reads d named_items ts ≡ reads d (Map items.Routine routine) ts
 unfolding named_items typedef typedef_rest
-items_routine d ts h g i = rw (h, known.class_known.info_is, mem_both (next ts).code (code k.Virtual ∷ []) (code k.Class ∷ []), g, known.param_known.info_is, i, known.param_known.low_is, known.routine_known.low_is) refl
+items_routine d ts h g i = rw (h, known.class_known.info_is, known.class_known.low_is, mem_both (next ts).code (code k.Virtual ∷ []) (code k.Class ∷ []), g, known.param_known.info_is, i, known.param_known.low_is, known.routine_known.low_is) refl
 
 -- ---- items that stand in modules and programs
 
@@ -57,19 +57,19 @@ common_named d ts h g = rw (known_types.word_decl_known.info_is, h, known.named_
 
 pub common_clocking : (d : ℕ) (ts : List Tok) → mem (next ts).code word_decl_first ≡ false → mem (next ts).code named_items_first ≡ false → (mem (next ts).code (code k.Clocking ∷ []) || mem (next ts).code (code k.Default ∷ [])) ≡ true → reads d common ts ≡ reads d clocking ts
 unfolding common
-common_clocking d ts h g i = rw (known_types.word_decl_known.info_is, h, known.named_items_known.info_is, g, known.named_items_known.low_is, known.clocking_known.info_is, mem_both (next ts).code (code k.Clocking ∷ []) (code k.Default ∷ []), i, known.clocking_known.low_is) refl
+common_clocking d ts h g i = rw (known_types.word_decl_known.info_is, h, known.named_items_known.info_is, g, known.named_items_known.low_is, known.clocking_known.info_is, known.clocking_known.low_is, mem_both (next ts).code (code k.Clocking ∷ []) (code k.Default ∷ []), i) refl
 
 pub common_initial : (d : ℕ) (ts : List Tok) → 0 < d → mem (next ts).code word_decl_first ≡ false → mem (next ts).code named_items_first ≡ false → (mem (next ts).code (code k.Clocking ∷ []) || mem (next ts).code (code k.Default ∷ [])) ≡ false → mem (next ts).code (code k.Initial ∷ []) ≡ true → reads d common ts ≡ reads d initial ts
 unfolding common
-common_initial d ts some h g i j = rw (known_types.word_decl_known.info_is, h, known.named_items_known.info_is, g, known.named_items_known.low_is, known.clocking_known.info_is, mem_both (next ts).code (code k.Clocking ∷ []) (code k.Default ∷ []), i, known.clocking_known.low_is, known.initial_known.info_is, j, known.initial_known.low_is, reach_one d some) refl
+common_initial d ts some h g i j = rw (known_types.word_decl_known.info_is, h, known.named_items_known.info_is, g, known.named_items_known.low_is, known.clocking_known.info_is, known.clocking_known.low_is, mem_both (next ts).code (code k.Clocking ∷ []) (code k.Default ∷ []), i, known.initial_known.info_is, j, known.initial_known.low_is, reach_one d some) refl
 
 pub common_deep : (ts : List Tok) → mem (next ts).code word_decl_first ≡ false → mem (next ts).code named_items_first ≡ false → (mem (next ts).code (code k.Clocking ∷ []) || mem (next ts).code (code k.Default ∷ [])) ≡ false → mem (next ts).code (code k.Initial ∷ []) ≡ true → reads 0 common ts ≡ Err (TooDeep ts)
 unfolding common
-common_deep ts h g i j = rw (known_types.word_decl_known.info_is, h, known.named_items_known.info_is, g, known.named_items_known.low_is, known.clocking_known.info_is, mem_both (next ts).code (code k.Clocking ∷ []) (code k.Default ∷ []), i, known.clocking_known.low_is, known.initial_known.info_is, j, known.initial_known.low_is) refl
+common_deep ts h g i j = rw (known_types.word_decl_known.info_is, h, known.named_items_known.info_is, g, known.named_items_known.low_is, known.clocking_known.info_is, known.clocking_known.low_is, mem_both (next ts).code (code k.Clocking ∷ []) (code k.Default ∷ []), i, known.initial_known.info_is, j, known.initial_known.low_is) refl
 
 pub common_null : (d : ℕ) (ts : List Tok) → mem (next ts).code word_decl_first ≡ false → mem (next ts).code named_items_first ≡ false → (mem (next ts).code (code k.Clocking ∷ []) || mem (next ts).code (code k.Default ∷ [])) ≡ false → mem (next ts).code (code k.Initial ∷ []) ≡ false → reads d common ts ≡ reads d (Map (λ t. items.Null) (tok k.Semicolon)) ts
 unfolding common
-common_null d ts h g i j = rw (known_types.word_decl_known.info_is, h, known.named_items_known.info_is, g, known.named_items_known.low_is, known.clocking_known.info_is, mem_both (next ts).code (code k.Clocking ∷ []) (code k.Default ∷ []), i, known.clocking_known.low_is, known.initial_known.info_is, j) refl
+common_null d ts h g i j = rw (known_types.word_decl_known.info_is, h, known.named_items_known.info_is, g, known.named_items_known.low_is, known.clocking_known.info_is, known.clocking_known.low_is, mem_both (next ts).code (code k.Clocking ∷ []) (code k.Default ∷ []), i, known.initial_known.info_is, j, known.initial_known.low_is) refl
 
 -- ---- items of programs
 
@@ -100,20 +100,20 @@ module_common d ts h = rw (known.common_known.info_is, h, known.common_known.low
 
 pub module_net : (d : ℕ) (ts : List Tok) → mem (next ts).code common_first ≡ false → (mem (next ts).code (code k.Wire ∷ []) || mem (next ts).code (code k.Tri ∷ [])) ≡ true → reads d module_item ts ≡ reads d net ts
 unfolding module_item
-module_net d ts h g = rw (known.common_known.info_is, h, known.net_known.info_is, mem_both (next ts).code (code k.Wire ∷ []) (code k.Tri ∷ []), g, known.net_known.low_is) refl
+module_net d ts h g = rw (known.common_known.info_is, h, known.net_known.info_is, known.net_known.low_is, mem_both (next ts).code (code k.Wire ∷ []) (code k.Tri ∷ []), g) refl
 
 pub module_assign : (d : ℕ) (ts : List Tok) → mem (next ts).code common_first ≡ false → (mem (next ts).code (code k.Wire ∷ []) || mem (next ts).code (code k.Tri ∷ [])) ≡ false → mem (next ts).code (code k.Assign ∷ []) ≡ true → reads d module_item ts ≡ reads d assign ts
 unfolding module_item
-module_assign d ts h g i = rw (known.common_known.info_is, h, known.net_known.info_is, mem_both (next ts).code (code k.Wire ∷ []) (code k.Tri ∷ []), g, known.net_known.low_is, known.assign_known.info_is, i, known.assign_known.low_is) refl
+module_assign d ts h g i = rw (known.common_known.info_is, h, known.net_known.info_is, known.net_known.low_is, mem_both (next ts).code (code k.Wire ∷ []) (code k.Tri ∷ []), g, known.assign_known.info_is, i, known.assign_known.low_is) refl
 
 pub module_always : (d : ℕ) (ts : List Tok) → 0 < d → mem (next ts).code common_first ≡ false → (mem (next ts).code (code k.Wire ∷ []) || mem (next ts).code (code k.Tri ∷ [])) ≡ false → mem (next ts).code (code k.Assign ∷ []) ≡ false → mem (next ts).code (kinds_of procedure_words) ≡ true → reads d module_item ts ≡ reads d always ts
 unfolding module_item
-module_always d ts some h g i j = rw (known.common_known.info_is, h, known.net_known.info_is, mem_both (next ts).code (code k.Wire ∷ []) (code k.Tri ∷ []), g, known.net_known.low_is, known.assign_known.info_is, i, known.assign_known.low_is, known.always_known.info_is, j, known.always_known.low_is, known.named_item_known.low_is, reach_one d some) refl
+module_always d ts some h g i j = rw (known.common_known.info_is, h, known.net_known.info_is, known.net_known.low_is, mem_both (next ts).code (code k.Wire ∷ []) (code k.Tri ∷ []), g, known.assign_known.info_is, i, known.assign_known.low_is, known.always_known.info_is, j, known.always_known.low_is, known.named_item_known.low_is, reach_one d some) refl
 
 pub module_deep : (ts : List Tok) → mem (next ts).code common_first ≡ false → (mem (next ts).code (code k.Wire ∷ []) || mem (next ts).code (code k.Tri ∷ [])) ≡ false → mem (next ts).code (code k.Assign ∷ []) ≡ false → mem (next ts).code (kinds_of procedure_words) ≡ true → reads 0 module_item ts ≡ Err (TooDeep ts)
 unfolding module_item
-module_deep ts h g i j = rw (known.common_known.info_is, h, known.net_known.info_is, mem_both (next ts).code (code k.Wire ∷ []) (code k.Tri ∷ []), g, known.net_known.low_is, known.assign_known.info_is, i, known.assign_known.low_is, known.always_known.info_is, j, known.always_known.low_is, known.named_item_known.low_is) refl
+module_deep ts h g i j = rw (known.common_known.info_is, h, known.net_known.info_is, known.net_known.low_is, mem_both (next ts).code (code k.Wire ∷ []) (code k.Tri ∷ []), g, known.assign_known.info_is, i, known.assign_known.low_is, known.always_known.info_is, j, known.always_known.low_is, known.named_item_known.low_is) refl
 
 pub module_named : (d : ℕ) (ts : List Tok) → mem (next ts).code common_first ≡ false → (mem (next ts).code (code k.Wire ∷ []) || mem (next ts).code (code k.Tri ∷ [])) ≡ false → mem (next ts).code (code k.Assign ∷ []) ≡ false → mem (next ts).code (kinds_of procedure_words) ≡ false → reads d module_item ts ≡ reads d named_item ts
 unfolding module_item
-module_named d ts h g i j = rw (known.common_known.info_is, h, known.net_known.info_is, mem_both (next ts).code (code k.Wire ∷ []) (code k.Tri ∷ []), g, known.net_known.low_is, known.assign_known.info_is, i, known.assign_known.low_is, known.always_known.info_is, j, known.always_known.low_is, known.named_item_known.low_is) refl
+module_named d ts h g i j = rw (known.common_known.info_is, h, known.net_known.info_is, known.net_known.low_is, mem_both (next ts).code (code k.Wire ∷ []) (code k.Tri ∷ []), g, known.assign_known.info_is, i, known.assign_known.low_is, known.always_known.info_is, j, known.always_known.low_is, known.named_item_known.low_is) refl

@@ -1,4 +1,3 @@
 pub mod First
 pub mod Views
 pub mod Files
-pub mod Written

@@ -3,7 +3,8 @@ ghost use Rattle.std.specs.Prelude.{◌≡◌, [], ◌∷◌, Option, IfOk, opti
 ghost use Rattle.sv_grammar.specs.Tokens.{mem, next};
 ghost use Rattle.sv_tree.specs.declared.kind.Kind.TheVariants as k;
 ghost use Rattle.sv_tree.specs.Codes.{code, toks};
-ghost use Rattle.sv_tree.specs.Forms.{kinds_of};
+ghost use Rattle.sv_tree.specs.Forms as forms;
+ghost use Rattle.sv_tree.specs.Forms.{◌◂◌, kinds_of, list, pair};
 ghost use Rattle.sv_tree.specs.Grammar.{reads};
 ghost use Rattle.sv_tree.specs.Units as units;
 ghost use Rattle.sv_tree.specs.UnitGrammar as grammar;
@@ -193,6 +194,16 @@ fn sides<'a>(alloc: Global, tokens: &'a [Token], budget: Budget) -> Read<'a, Vec
 
 // ---- items
 
+/// Directions, and `list(id) ";"`
+fn signals<'a>(alloc: Global, tokens: &'a [Token], budget: Budget) -> Read<'a, ClockingItem>
+    ensures { Reads view.clocking_item budget (pair units.Signals grammar.sides (list forms.name ◂ k.Semicolon)) tokens.now result }
+{
+    let (sides, rest) = sides(alloc, tokens, budget)?;
+    let (names, rest) = list::<Names>(alloc, rest, budget)?;
+    let (_, rest) = expect(rest, Kind::Semicolon)?;
+    Ok((ClockingItem::Signals(sides, names), rest))
+}
+
 /// `citems`
 pub struct ClockingItems;
 
@@ -220,10 +231,7 @@ impl Part for ClockingItems {
             let (_, rest) = expect(rest, Kind::Semicolon)?;
             return Ok((ClockingItem::Default(skews), rest));
         }
-        let (sides, rest) = sides(alloc, tokens, budget)?;
-        let (names, rest) = list::<Names>(alloc, rest, budget)?;
-        let (_, rest) = expect(rest, Kind::Semicolon)?;
-        Ok((ClockingItem::Signals(sides, names), rest))
+        signals(alloc, tokens, budget)
     }
 
     ghost is_known = { clocking_item_known };

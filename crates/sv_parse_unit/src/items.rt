@@ -26,10 +26,10 @@ use sv_tree::{Item, Kind, Life, Procedure, ProcedureWord, Token};
 fn initial<'a>(alloc: Global, tokens: &'a [Token], budget: Budget) -> Read<'a, Item>
     ensures { Reads view.item budget grammar.initial tokens.now result }
 {
-    let (at, rest) = expect(tokens, Kind::Initial)?;
+    let (first, rest) = expect(tokens, Kind::Initial)?;
     let (body, rest) = statement(alloc, rest, budget)?;
     let procedure = Procedure {
-        at: at.at,
+        at: first.at,
         word: ProcedureWord::Initial,
         body,
     };
@@ -130,10 +130,10 @@ impl Repeated for ProgramItems {
 fn always<'a>(alloc: Global, tokens: &'a [Token], budget: Budget) -> Read<'a, Item>
     ensures { Reads view.item budget grammar.always tokens.now result }
 {
-    let ((at, word), rest) = expect_word::<ProcedureWord>(tokens)?;
+    let ((first, word), rest) = expect_word::<ProcedureWord>(tokens)?;
     let (body, rest) = statement(alloc, rest, budget)?;
     let procedure = Procedure {
-        at: at.at,
+        at: first.at,
         word,
         body,
     };

@@ -9,9 +9,9 @@ ghost use Rattle.sv_tree.specs.Units as units;
 ghost use Rattle.sv_tree.specs.UnitGrammar as grammar;
 ghost use Rattle.sv_tree.specs.UnitView as view;
 ghost use Rattle.sv_parse.specs.Outcome.{Gives, Reads};
+ghost use Rattle.sv_parse.specs.Parts.{if_next};
 ghost use Rattle.sv_parse.proofs.UnitParts.{net_item_known, net_item_listed, assign_item_known, assign_item_listed};
 ghost use Rattle.sv_parse_unit.specs.First.{target_first};
-ghost use Rattle.sv_parse_unit.specs.Written.{is_written};
 
 use std::alloc::Global;
 use sv_parse::{
@@ -35,7 +35,7 @@ fn net_word<'a>(tokens: &'a [Token]) -> Read<'a, &'a Token>
 
 /// `["wire" | "tri"]`: whether it is written, and the tokens after it.
 pub fn maybe_net(tokens: &[Token]) -> (bool, &[Token])
-    ensures { is_written (reads 0 (optional (any_of grammar.net_words)) (toks tokens.now)) ≡ Ok (result.0, toks result.1.now) }
+    ensures { reads 0 (optional (any_of grammar.net_words)) (toks tokens.now) ≡ Ok (if_next result.0 (toks tokens.now), toks result.1.now) }
 {
     match tokens {
         [first, rest @ ..] if matches!(first.kind, Kind::Wire | Kind::Tri) => (true, rest),

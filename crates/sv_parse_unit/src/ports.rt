@@ -17,7 +17,7 @@ use sv_parse::{
 use sv_tree::{ImpliedType, Kind, Port, PortDirection, Token};
 
 /// `("input" | "output") ["wire" | "tri"] [itype] id`
-#[tactic(auto, unfolding(sv_tree::specs::UnitGrammar::directed_port))]
+#[tactic(auto, using(crate::proofs::ElementLaws::written), unfolding(sv_tree::specs::UnitGrammar::directed_port))]
 fn directed_port<'a>(alloc: Global, tokens: &'a [Token], budget: Budget) -> Read<'a, Port>
     ensures { Reads view.port budget grammar.directed_port tokens.now result }
 {
