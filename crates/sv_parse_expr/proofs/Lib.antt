@@ -1,0 +1,11 @@
+pub mod Budgets
+pub mod Outcomes
+pub mod Lists
+pub mod Known
+pub mod Links
+pub mod Recast
+pub mod Prims
+pub mod Operands
+pub mod Braces
+pub mod TargetLaws
+pub mod Exact

@@ -72,35 +72,28 @@ pub fn begins_suffix(tokens: &[Token]) -> bool
     }
 }
 
-/// Whether a kind is a word of a type that may be cast to.
-fn cast_first(kind: Kind) -> bool
-    ensures { result ≡ mem (code kind) cast_first }
-{
-    matches!(
-        kind,
-        Kind::Bit
-            | Kind::Logic
-            | Kind::Reg
-            | Kind::Byte
-            | Kind::Shortint
-            | Kind::Int
-            | Kind::Longint
-            | Kind::Integer
-            | Kind::Time
-            | Kind::String
-            | Kind::Event
-            | Kind::Semaphore
-            | Kind::Mailbox
-    )
-}
-
 /// Whether a word of a type that may be cast to comes next.
 pub fn begins_cast(tokens: &[Token]) -> bool
     ensures { result ≡ mem (next (toks tokens.now)).code cast_first }
 {
     match tokens {
         [] => false,
-        [first, ..] => cast_first(first.kind),
+        [first, ..] => matches!(
+            first.kind,
+            Kind::Bit
+                | Kind::Logic
+                | Kind::Reg
+                | Kind::Byte
+                | Kind::Shortint
+                | Kind::Int
+                | Kind::Longint
+                | Kind::Integer
+                | Kind::Time
+                | Kind::String
+                | Kind::Event
+                | Kind::Semaphore
+                | Kind::Mailbox
+        ),
     }
 }
 

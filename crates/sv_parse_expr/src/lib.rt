@@ -11,17 +11,25 @@
 mod begins;
 mod calls;
 mod casts;
+mod fronts;
+mod made;
+mod measured;
+mod operators;
 mod parts;
 mod posts;
+mod reader;
 mod target;
+#[cfg(test)]
+mod tests;
 mod values;
 mod whole;
 
 pub use begins::{begins_cast, begins_expr};
 pub use calls::{call, maybe_actuals, system_call};
 pub use casts::{cast_value, cast_word};
+pub use made::post_of;
 pub use parts::{Enclosed, Exprs, Values};
-pub use posts::{Post, named_post, named_root, post_of, scope, suffixes, super_post, this_post};
+pub use posts::{Post, named_post, named_root, scope, suffixes, super_post, this_post};
 pub use target::{lval, targets};
 pub use values::value;
 pub use whole::expr;

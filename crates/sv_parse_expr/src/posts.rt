@@ -4,14 +4,13 @@ ghost use Rattle.sv_tree.specs.Codes.{toks};
 ghost use Rattle.sv_tree.specs.Grammar.{reads};
 ghost use Rattle.sv_tree.specs.ExprGrammar as grammar;
 ghost use Rattle.sv_tree.specs.ExprGrammar.{named_root, scoped};
-ghost use Rattle.sv_tree.specs.View as view;
-ghost use Rattle.sv_tree.specs.Expr as tree;
 ghost use Rattle.sv_parse.specs.Outcome.{Gives, Reads};
-ghost use Rattle.sv_parse_expr.specs.Views.{post};
+ghost use Rattle.sv_parse_expr.specs.Views as views;
 
+use crate::reader::measured_suffixes;
 use std::alloc::Global;
-use sv_parse::{Budget, Read, ReadError, expect, is_next, name};
-use sv_tree::{Expr, Kind, Name, Root, Suffix, Token};
+use sv_parse::{Budget, Read, expect, is_next, name};
+use sv_tree::{Kind, Name, Root, Suffix, Token};
 
 /// `post`: a name with what follows it.
 #[derive(Drop)]
@@ -42,37 +41,60 @@ pub fn named_root(first: Name, second: Option<Name>) -> Root
     }
 }
 
-/// A name with what follows it, as an expression.
-pub fn post_of(root: Root, suffixes: Vec<Suffix>) -> Expr
-    ensures { view.expr result ≡ tree.Expr.Post root (view.suffix_list suffixes.items) }
-{
-    Expr::Post(root, suffixes)
-}
-
 /// Members, calls and selects after a name: `{"." id | actuals | sel}`
 pub fn suffixes<'a>(alloc: Global, tokens: &'a [Token], budget: Budget) -> Read<'a, Vec<Suffix>>
-    ensures { Reads (λ v. view.suffix_list v.items) budget grammar.suffixes tokens.now result }
+    ensures { Reads views.all_suffixes budget grammar.suffixes tokens.now result }
 {
-    Err(ReadError::Memory)
+    let (suffixes, rest) = measured_suffixes(alloc, tokens, budget)?;
+    Ok((suffixes.tree, rest))
 }
 
 /// `id ["::" id] {"." id | actuals | sel}`
+#[tactic(auto, unfolding(sv_tree::specs::ExprGrammar::named_post, sv_tree::specs::ExprGrammar::post_rest))]
 pub fn named_post<'a>(alloc: Global, tokens: &'a [Token], budget: Budget) -> Read<'a, Post>
-    ensures { Reads post budget grammar.named_post tokens.now result }
+    ensures { Reads views.post budget grammar.named_post tokens.now result }
 {
-    Err(ReadError::Memory)
+    let (first, rest) = name(alloc, tokens)?;
+    let (second, rest) = scope(alloc, rest)?;
+    let root = named_root(first, second);
+    let (suffixes, rest) = suffixes(alloc, rest, budget)?;
+    Ok((Post { root, suffixes }, rest))
 }
 
 /// `"this" {"." id | actuals | sel}`
+#[tactic(auto, unfolding(sv_tree::specs::ExprGrammar::this_post))]
 pub fn this_post<'a>(alloc: Global, tokens: &'a [Token], budget: Budget) -> Read<'a, Post>
-    ensures { Reads post budget grammar.this_post tokens.now result }
+    ensures { Reads views.post budget grammar.this_post tokens.now result }
 {
-    Err(ReadError::Memory)
+    let (word, rest) = expect(tokens, Kind::This)?;
+    let root = Root::This(word.at);
+    let (suffixes, rest) = suffixes(alloc, rest, budget)?;
+    Ok((Post { root, suffixes }, rest))
 }
 
 /// `"super" "." id {"." id | actuals | sel}`
+#[tactic(auto, unfolding(sv_tree::specs::ExprGrammar::super_post))]
 pub fn super_post<'a>(alloc: Global, tokens: &'a [Token], budget: Budget) -> Read<'a, Post>
-    ensures { Reads post budget grammar.super_post tokens.now result }
+    ensures { Reads views.post budget grammar.super_post tokens.now result }
 {
-    Err(ReadError::Memory)
+    let (word, rest) = expect(tokens, Kind::Super)?;
+    let (_, rest) = expect(rest, Kind::Dot)?;
+    let (member, rest) = name(alloc, rest)?;
+    let root = Root::Super(word.at, member);
+    let (suffixes, rest) = suffixes(alloc, rest, budget)?;
+    Ok((Post { root, suffixes }, rest))
+}
+
+/// `post`
+#[tactic(auto, using(crate::proofs::TargetLaws::post_named, crate::proofs::TargetLaws::post_this, crate::proofs::TargetLaws::post_super))]
+pub fn any_post<'a>(alloc: Global, tokens: &'a [Token], budget: Budget) -> Read<'a, Post>
+    ensures { Reads views.post budget grammar.post tokens.now result }
+{
+    if is_next(tokens, Kind::Name) {
+        return named_post(alloc, tokens, budget);
+    }
+    if is_next(tokens, Kind::This) {
+        return this_post(alloc, tokens, budget);
+    }
+    super_post(alloc, tokens, budget)
 }

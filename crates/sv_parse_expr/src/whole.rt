@@ -9,8 +9,9 @@ ghost use Rattle.sv_tree.specs.View as view;
 ghost use Rattle.sv_parse.specs.Tells.{ReadsTo, Tells};
 ghost use Rattle.sv_parse_expr.specs.Answers.{Answers};
 
+use crate::values::value;
 use std::alloc::Global;
-use sv_parse::SyntaxFault;
+use sv_parse::{Budget, SyntaxFault, fault_of};
 use sv_tree::{Expr, Token};
 
 /// Reads an expression from the place `from` of a list of tokens on (IEEE 1800-2017, A.8).
@@ -30,5 +31,8 @@ pub fn expr(
     ensures told { Tells view.expr (texts_of grammar.expr) (most_depth - depth) (toks tokens.now) from result }
     ensures only { (e : tree.Expr) (end : ℕ) → ReadsTo (texts_of grammar.expr) (most_depth - depth) (toks tokens.now) from e end → Answers view.expr e end result }
 {
-    Err(SyntaxFault::Memory)
+    match value(alloc, &tokens[from..], Budget::at(depth)) {
+        Ok((tree, rest)) => Ok((tree, tokens.len() - rest.len())),
+        Err(error) => Err(fault_of(error)),
+    }
 }

@@ -1,0 +1,180 @@
+// What lists of tokens are read as.
+use crate::{Enclosed, call, cast_value, cast_word, expr, lval, maybe_actuals, targets, value};
+use std::alloc::{AllocGlobal, Global};
+use std::process::Abort;
+use std::test::Fail;
+use sv_parse::{Budget, Part, Read, SyntaxFault, SyntaxKind};
+use sv_tree::{BinaryWord, Expr, Kind, MOST_DEPTH, SIGNS, Token, WORDS};
+use sv_value::{Place, Text};
+
+/// The kind of a word of the tables, or a name.
+fn kind_of(word: &str) -> Kind {
+    for (spelling, kind) in &WORDS {
+        if *spelling == word {
+            return *kind;
+        }
+    }
+    for (spelling, kind) in &SIGNS {
+        if *spelling == word {
+            return *kind;
+        }
+    }
+    Kind::Name
+}
+
+/// The tokens of words between blanks, in the columns from 1 on, and behind them the end.
+fn tokens(alloc: Global, text: &str) -> Result<Vec<Token>, Fail> {
+    let mut list = Vec::new(alloc);
+    let mut col: u32 = 1;
+    for word in text.split(' ') {
+        list.push(token(alloc, kind_of(word), col))?;
+        col = col.saturating_add(1);
+    }
+    list.push(token(alloc, Kind::EndOfText, col))?;
+    Ok(list)
+}
+
+/// A token in line 1.
+fn token(alloc: Global, kind: Kind, col: u32) -> Token {
+    Token {
+        kind,
+        at: Place {
+            file: 0,
+            line: 1,
+            col,
+        },
+        text: Text::new(alloc),
+    }
+}
+
+/// Where an expression ends, or the kind and the column of the fault.
+fn end_of(
+    alloc: Global,
+    list: &[Token],
+    from: usize,
+    depth: u32,
+) -> Result<usize, (SyntaxKind, u32)> {
+    if from > list.len() || depth > MOST_DEPTH {
+        return Ok(0);
+    }
+    match expr(alloc, list, from, depth) {
+        Ok((_, end)) => Ok(end),
+        Err(SyntaxFault::Bad { at, kind }) => Err((kind, at.col)),
+        Err(SyntaxFault::Memory) => Ok(0),
+    }
+}
+
+/// The expression of these tokens ends there, or has this fault.
+fn ends<R: Abort + AllocGlobal>(
+    rt: &R,
+    text: &str,
+    from: usize,
+    depth: u32,
+    wanted: Result<usize, (SyntaxKind, u32)>,
+) -> Result<(), Fail> {
+    let list = tokens(rt.alloc(), text)?;
+    assert_eq!(rt; end_of(rt.alloc(), &list, from, depth), wanted);
+    Ok(())
+}
+
+#[test]
+fn an_expression_ends_where_none_goes_on(rt: HostRuntime) -> Result<(), Fail> {
+    ends(&rt, "a + a * a ;", 0, 0, Ok(5))?;
+    ends(&rt, "a + a * a ;", 2, 0, Ok(5))?;
+    ends(&rt, "a + a * a ;", 1, 198, Ok(5))?;
+    ends(&rt, "a + a * a ;", 1, 199, Err((SyntaxKind::Depth, 4)))
+}
+
+#[test]
+fn a_fault_has_its_place(rt: HostRuntime) -> Result<(), Fail> {
+    ends(&rt, "a + ;", 0, 0, Err((SyntaxKind::Unexpected, 3)))?;
+    ends(&rt, "( ( a ) )", 0, 198, Ok(5))?;
+    ends(&rt, "( ( a ) )", 0, 199, Err((SyntaxKind::Depth, 2)))?;
+    ends(&rt, "( ( a ) )", 0, 200, Err((SyntaxKind::Depth, 1)))
+}
+
+/// Whether a difference has a difference on its left.
+fn groups_left(tree: &Expr) -> bool {
+    match tree {
+        Expr::Binary {
+            word: BinaryWord::Minus,
+            left,
+            ..
+        } => matches!(
+            &**left,
+            Expr::Binary {
+                word: BinaryWord::Minus,
+                ..
+            }
+        ),
+        _ => false,
+    }
+}
+
+/// Whether a choice has a choice as its last branch.
+fn groups_right(tree: &Expr) -> bool {
+    match tree {
+        Expr::Choose { no, .. } => matches!(&**no, Expr::Choose { .. }),
+        _ => false,
+    }
+}
+
+/// Whether the expression of these tokens passes a test.
+fn passes(read: Read<Expr>, test: fn(&Expr) -> bool) -> bool {
+    match read {
+        Ok((tree, _)) => test(&tree),
+        Err(_) => false,
+    }
+}
+
+#[test]
+fn operators_group(rt: HostRuntime) -> Result<(), Fail> {
+    let differences = tokens(rt.alloc(), "a - a - a")?;
+    assert!(rt;
+        passes(
+            value(rt.alloc(), &differences, Budget::whole()),
+            groups_left
+        )
+    );
+    let choices = tokens(rt.alloc(), "a ? a : a ? a : a")?;
+    assert!(rt; passes(value(rt.alloc(), &choices, Budget::whole()), groups_right));
+    Ok(())
+}
+
+/// How many tokens are left after what was read, or none where it was not.
+fn left<T: Drop>(read: Read<T>) -> usize {
+    match read {
+        Ok((_, rest)) => rest.len(),
+        Err(_) => 0,
+    }
+}
+
+/// Two tokens are left, the semicolon and the end.
+fn ends_there<R: Abort, T: Drop>(rt: &R, read: Read<T>) {
+    assert_eq!(rt; left(read), 2);
+}
+
+#[test]
+fn each_part_is_read(rt: HostRuntime) -> Result<(), Fail> {
+    let alloc = rt.alloc();
+    let post = tokens(alloc, "a . a [ a ] ( a , a ) ;")?;
+    ends_there(&rt, value(alloc, &post, Budget::whole()));
+    ends_there(&rt, call(alloc, &post, Budget::whole()));
+    ends_there(&rt, lval(alloc, &post, Budget::whole()));
+    let braces = tokens(alloc, "{ a , a } ;")?;
+    ends_there(&rt, targets(alloc, &braces, Budget::whole()));
+    let bracket = tokens(alloc, "( a ) ;")?;
+    ends_there(&rt, maybe_actuals(alloc, &bracket, Budget::whole()));
+    ends_there(&rt, Enclosed::read(alloc, &bracket, Budget::whole()));
+    Ok(())
+}
+
+#[test]
+fn a_cast_goes_on_after_its_word(rt: HostRuntime) -> Result<(), Fail> {
+    let cast = tokens(rt.alloc(), "int ' ( a ) + a ;")?;
+    match cast_word(&cast) {
+        Ok((to, rest)) => ends_there(&rt, cast_value(rt.alloc(), to, rest, Budget::whole())),
+        Err(_) => assert!(rt; false),
+    }
+    Ok(())
+}
