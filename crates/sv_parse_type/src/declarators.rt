@@ -1,17 +1,19 @@
 // Names that are declared (IEEE 1800-2017, A.2.4).
-ghost use Rattle.std.specs.Prelude.{[], ◌∷◌, map};
+ghost use Rattle.std.specs.Prelude.{[], ◌∷◌};
 ghost use Rattle.sv_tree.specs.declared.kind.Kind.TheVariants as k;
 ghost use Rattle.sv_tree.specs.Codes.{code, toks};
 ghost use Rattle.sv_tree.specs.Stmt as stmts;
 ghost use Rattle.sv_tree.specs.TypeGrammar as grammar;
 ghost use Rattle.sv_tree.specs.StmtView as view;
 ghost use Rattle.sv_tree.specs.Grammar.{reads};
-ghost use Rattle.sv_parse.specs.Outcome.{Gives, Reads, seen};
+ghost use Rattle.sv_parse.specs.Outcome.{Reads, seen};
 ghost use Rattle.sv_parse.proofs.TypeParts.{declarator_known, declarator_listed};
-ghost use Rattle.sv_parse_type.specs.Applied.{applied};
+ghost use Rattle.sv_parse_type.specs.Applied.{ReadsAfter};
 
+use crate::dimensions::Dimensions;
+use crate::initial::Inits;
 use std::alloc::Global;
-use sv_parse::{Budget, Listed, Part, Read, ReadError};
+use sv_parse::{Budget, Listed, Part, Read, list, list_after, maybe, name};
 use sv_tree::{Declarator, Kind, Name, Token};
 
 /// `id [dim] ["=" init]`
@@ -32,8 +34,10 @@ impl Part for Declarators {
         kind == Kind::Name
     }
 
-    fn read<'a>(_alloc: Global, _tokens: &'a [Token], _budget: Budget) -> Read<'a, Declarator> {
-        Err(ReadError::Memory)
+    #[tactic(auto, using(crate::proofs::DeclarationLaws::declarator_is))]
+    fn read<'a>(alloc: Global, tokens: &'a [Token], budget: Budget) -> Read<'a, Declarator> {
+        let (name, rest) = name(alloc, tokens)?;
+        declarator_rest(alloc, name, rest, budget)
     }
 
     ghost is_known = { declarator_known };
@@ -43,25 +47,48 @@ impl Listed for Declarators {
     ghost is_listed = { declarator_listed };
 }
 
+/// `[dim] ["=" init]` after the name.
+#[tactic(auto, unfolding(sv_tree::specs::TypeGrammar::declarator_rest))]
+fn declarator_rest<'a>(
+    alloc: Global,
+    name: Name,
+    tokens: &'a [Token],
+    budget: Budget,
+) -> Read<'a, Declarator>
+    ensures { ReadsAfter view.declarator name budget grammar.declarator_rest tokens.now result }
+{
+    let (dimension, rest) = maybe::<Dimensions>(alloc, tokens, budget)?;
+    let (init, rest) = maybe::<Inits>(alloc, rest, budget)?;
+    let declarator = Declarator {
+        name,
+        dimension,
+        init,
+    };
+    Ok((declarator, rest))
+}
+
 /// `list(id [dim] ["=" init])`
+#[tactic(auto, unfolding(sv_tree::specs::TypeGrammar::declarators))]
 pub fn declarator_list<'a>(
-    _alloc: Global,
+    alloc: Global,
     tokens: &'a [Token],
     budget: Budget,
 ) -> Read<'a, Vec<Declarator>>
     ensures { Reads (seen view.declarator) budget grammar.declarators tokens.now result }
 {
-    Err(ReadError::Memory)
+    list::<Declarators>(alloc, tokens, budget)
 }
 
 /// What follows the first name of a list of declarators.
+#[tactic(auto, using(crate::proofs::DeclarationLaws::more_declarators_are))]
 pub fn more_declarators<'a>(
-    _alloc: Global,
+    alloc: Global,
     name: Name,
     tokens: &'a [Token],
     budget: Budget,
 ) -> Read<'a, Vec<Declarator>>
-    ensures { Gives (λ x. (seen view.declarator x.0, toks x.1.now)) result (applied name (reads budget grammar.more_declarators (toks tokens.now))) }
+    ensures { ReadsAfter (seen view.declarator) name budget grammar.more_declarators tokens.now result }
 {
-    Err(ReadError::Memory)
+    let (first, rest) = declarator_rest(alloc, name, tokens, budget)?;
+    list_after::<Declarators>(alloc, first, rest, budget)
 }

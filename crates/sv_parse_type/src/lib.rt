@@ -11,10 +11,12 @@ mod declarations;
 mod declarators;
 mod dimensions;
 mod initial;
+#[cfg(test)]
+mod tests;
 mod types;
 
 pub use declarations::{begins_word_decl, named_decl_rest, typed, word_decl};
 pub use declarators::{Declarators, declarator_list, more_declarators};
 pub use dimensions::Dimensions;
-pub use initial::{Enclosed, Inits, init};
+pub use initial::{Inits, init};
 pub use types::{BoxedRanges, Ranges, begins_word_type, word_type, written_type};
