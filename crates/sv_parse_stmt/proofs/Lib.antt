@@ -1,0 +1,16 @@
+pub mod KindLaws
+pub mod Shapes
+pub mod DelayLaws
+pub mod EventLaws
+pub mod AssignmentLaws
+pub mod ForLaws
+pub mod HeadLaws
+pub mod SimpleLaws
+pub mod StmtLaws
+pub mod BlockLaws
+pub mod BlockParts
+pub mod CaseLaws
+pub mod FrontLaws
+pub mod InnerLaws
+pub mod UnnamedLaws
+pub mod Exact

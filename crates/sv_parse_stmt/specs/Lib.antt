@@ -1,2 +1,4 @@
+pub mod Begins
 pub mod Blocks
-pub mod Whole
+pub mod Fronts
+pub mod Statements

@@ -10,14 +10,47 @@ ghost use Rattle.sv_parse.specs.Outcome.{Reads};
 ghost use Rattle.sv_parse.proofs.StmtParts.{delay_known};
 
 use std::alloc::Global;
-use sv_parse::{Budget, Part, Read, ReadError};
-use sv_tree::{Delay, Expr, Kind, Token};
+use sv_parse::{Budget, Part, Read, expect, is_next, name};
+use sv_parse_expr::{post_of, value};
+use sv_tree::{Delay, Expr, Kind, Root, Token};
 
-/// `number | time | id | "(" expr ")"`, whose brackets do not count
-pub fn amount<'a>(_alloc: Global, tokens: &'a [Token], budget: Budget) -> Read<'a, Expr>
+/// `"(" expr ")"`, where the pair of brackets does not count
+#[tactic(auto, unfolding(sv_tree::specs::StmtGrammar::enclosed))]
+fn enclosed<'a>(alloc: Global, tokens: &'a [Token], budget: Budget) -> Read<'a, Expr>
+    ensures { Reads expr budget grammar.enclosed tokens.now result }
+{
+    let (open, rest) = expect(tokens, Kind::LeftParenthesis)?;
+    let (inner, rest) = value(alloc, rest, budget)?;
+    let (_, rest) = expect(rest, Kind::RightParenthesis)?;
+    Ok((Expr::Group(open.at, Box::new(alloc, inner)?), rest))
+}
+
+/// `number | id | "(" expr ")"`: the number of cycles after `##` (A.6.11)
+#[tactic(auto, using(crate::proofs::DelayLaws::cycles_number, crate::proofs::DelayLaws::cycles_named, crate::proofs::DelayLaws::cycles_enclosed))]
+pub fn cycles_amount<'a>(alloc: Global, tokens: &'a [Token], budget: Budget) -> Read<'a, Expr>
+    ensures { Reads expr budget grammar.cycles_amount tokens.now result }
+{
+    if is_next(tokens, Kind::Number) {
+        let (token, rest) = expect(tokens, Kind::Number)?;
+        return Ok((Expr::Number(token.at, token.text.copy(alloc)?), rest));
+    }
+    if is_next(tokens, Kind::Name) {
+        let (name, rest) = name(alloc, tokens)?;
+        return Ok((post_of(Root::Plain(name), Vec::new(alloc)), rest));
+    }
+    enclosed(alloc, tokens, budget)
+}
+
+/// `number | time | id | "(" expr ")"`, where the pair of brackets does not count
+#[tactic(auto, using(crate::proofs::DelayLaws::amount_time, crate::proofs::DelayLaws::amount_cycles))]
+pub fn amount<'a>(alloc: Global, tokens: &'a [Token], budget: Budget) -> Read<'a, Expr>
     ensures { Reads expr budget grammar.amount tokens.now result }
 {
-    Err(ReadError::Memory)
+    if is_next(tokens, Kind::TimeLiteral) {
+        let (token, rest) = expect(tokens, Kind::TimeLiteral)?;
+        return Ok((Expr::Time(token.at, token.text.copy(alloc)?), rest));
+    }
+    cycles_amount(alloc, tokens, budget)
 }
 
 /// `delay = "#" (number | time | id | "(" expr ")")`
@@ -38,8 +71,15 @@ impl Part for Delays {
         kind == Kind::Hash
     }
 
-    fn read<'a>(_alloc: Global, _tokens: &'a [Token], _budget: Budget) -> Read<'a, Delay> {
-        Err(ReadError::Memory)
+    #[tactic(auto, unfolding(sv_tree::specs::StmtGrammar::delay))]
+    fn read<'a>(alloc: Global, tokens: &'a [Token], budget: Budget) -> Read<'a, Delay> {
+        let (sign, rest) = expect(tokens, Kind::Hash)?;
+        let (amount, rest) = amount(alloc, rest, budget)?;
+        let delay = Delay {
+            at: sign.at,
+            amount,
+        };
+        Ok((delay, rest))
     }
 
     ghost is_known = { delay_known };
