@@ -1,10 +1,11 @@
 -- Modules, programs and what else stands in a file: what each part begins with.
-use Rattle.std.proofs.Common.{◌≡◌, ℕ, Bool, true, false, List, [], ◌∷◌, ◌++◌, Some, None, Ok, Err, refl, ◌∙◌}
+use Rattle.std.proofs.Common.{◌≡◌, ℕ, Bool, true, false, List, [], ◌∷◌, ◌++◌, Some, None, Ok, Err, refl, ap, ◌∙◌}
 use Rattle.sv_grammar.specs.Tokens.{Tok, next, mem}
 use Rattle.sv_grammar.specs.Language.{Out}
 use Rattle.sv_grammar.specs.Reading.{◌>>=◌}
 use Rattle.sv_grammar.specs.Code.{list_from}
 use Rattle.sv_grammar.specs.Code.Code.{Map}
+use Rattle.sv_tree.specs.declared.kind.Kind.{Kind}
 use Rattle.sv_tree.specs.declared.kind.Kind.TheVariants as k
 use Rattle.sv_tree.specs.declared.word.ParamWord.TheVariants as param_word
 use Rattle.sv_tree.specs.declared.word.Name.{Name}
@@ -14,15 +15,17 @@ use Rattle.sv_tree.specs.Types as types
 use Rattle.sv_tree.specs.Units as units
 use Rattle.sv_tree.specs.Descriptions as descriptions
 use Rattle.sv_tree.specs.Items as items
-use Rattle.sv_tree.specs.Forms.{C, ◌▸◌, comma, commas, pair, optional, otherwise, tok, word, chosen, kinds_of}
+use Rattle.sv_tree.specs.Forms.{C, ◌▸◌, comma, commas, pair, then_, optional, otherwise, tok, word, chosen, kinds_of}
 use Rattle.sv_tree.specs.ExprGrammar.{expr}
 use Rattle.sv_tree.specs.TypeGrammar.{typed_name}
-use Rattle.sv_tree.specs.UnitGrammar.{is_some, param_words, param_of, param_item_of, param_item, param, element_params, port_directions, directed_port, plain_port, next_port, ports, named_items, module_element, program_element, description}
+use Rattle.sv_tree.specs.UnitGrammar.{is_some, param_words, param_of, param_item_of, param_item, param, element_params, port_directions, directed_port, plain_port, next_port, ports, named_items, module_item, program_item, module_element, program_element, description}
 use Rattle.sv_tree.specs.Grammar.{reads}
 use Rattle.sv_tree.proofs.KnownItems as known
 use Rattle.sv_parse.specs.Parts.{from, if_next}
+use Rattle.sv_parse_type.specs.Applied.{applied}
+use Rattle.sv_parse_unit.specs.Elements.{element_rest}
 use Rattle.sv_parse_unit.specs.First.{named_items_first}
-use Rattle.sv_parse_unit.proofs.AppliedLaws.{pair_is, quadruple_is}
+use Rattle.sv_parse_unit.proofs.AppliedLaws.{pair_is, quadruple_is, then_is}
 
 -- ---- lists behind a first part
 
@@ -106,13 +109,29 @@ list_none d ts h = rw (known.directed_port_known.info_is, h) refl
 
 -- ---- descriptions
 
-pub a_module : (d : ℕ) (ts : List Tok) → mem (next ts).code (code k.Module ∷ []) ≡ true → reads d description ts ≡ reads d (Map descriptions.Module module_element) ts
-unfolding description
-a_module d ts h = rw (known.module_element_known.info_is, h, known.module_element_known.low_is) refl
+-- what is made of a design element, by its word and by what follows that
+element_is : {R : Type 0} (h : items.DesignElement → R) (first : Kind) (rest : C (Tok → items.DesignElement)) (d : ℕ) (ts : List Tok) → reads d (Map h (then_ (tok first) rest)) ts ≡ (reads d (tok first) ts >>= λ t. applied t.0 (reads d rest t.1) >>= λ e. Ok (h e.0, e.1))
+element_is {R = R} h first rest d ts = ap (λ (o : Out items.DesignElement). ◌>>=◌ {B = R} o (λ e. Ok (h e.0, e.1))) (then_is (tok first) rest d ts) ∙ go (reads d (tok first) ts)
+  where
+    go : (o : Out Tok) → (◌>>=◌ {B = R} (o >>= λ t. applied t.0 (reads d rest t.1)) (λ e. Ok (h e.0, e.1))) ≡ (o >>= λ t. applied t.0 (reads d rest t.1) >>= λ e. Ok (h e.0, e.1))
+    go (Ok t) = refl
+    go (Err m) = refl
 
-pub a_program : (d : ℕ) (ts : List Tok) → mem (next ts).code (code k.Module ∷ []) ≡ false → mem (next ts).code (code k.Program ∷ []) ≡ true → reads d description ts ≡ reads d (Map descriptions.Program program_element) ts
+first_module : (d : ℕ) (ts : List Tok) → mem (next ts).code (code k.Module ∷ []) ≡ true → reads d description ts ≡ reads d (Map descriptions.Module module_element) ts
 unfolding description
-a_program d ts h g = rw (known.module_element_known.info_is, h, known.program_element_known.info_is, known.program_element_known.low_is, g) refl
+first_module d ts h = rw (known.module_element_known.info_is, h, known.module_element_known.low_is) refl
+
+first_program : (d : ℕ) (ts : List Tok) → mem (next ts).code (code k.Module ∷ []) ≡ false → mem (next ts).code (code k.Program ∷ []) ≡ true → reads d description ts ≡ reads d (Map descriptions.Program program_element) ts
+unfolding description
+first_program d ts h g = rw (known.module_element_known.info_is, h, known.program_element_known.info_is, known.program_element_known.low_is, g) refl
+
+pub a_module : (d : ℕ) (ts : List Tok) → mem (next ts).code (code k.Module ∷ []) ≡ true → reads d description ts ≡ (reads d (tok k.Module) ts >>= λ t. applied t.0 (reads d (element_rest module_item k.Endmodule) t.1) >>= λ e. Ok (descriptions.Module e.0, e.1))
+unfolding module_element
+a_module d ts h = first_module d ts h ∙ element_is descriptions.Module k.Module (element_rest module_item k.Endmodule) d ts
+
+pub a_program : (d : ℕ) (ts : List Tok) → mem (next ts).code (code k.Module ∷ []) ≡ false → mem (next ts).code (code k.Program ∷ []) ≡ true → reads d description ts ≡ (reads d (tok k.Program) ts >>= λ t. applied t.0 (reads d (element_rest program_item k.Endprogram) t.1) >>= λ e. Ok (descriptions.Program e.0, e.1))
+unfolding program_element
+a_program d ts h g = first_program d ts h g ∙ element_is descriptions.Program k.Program (element_rest program_item k.Endprogram) d ts
 
 pub an_item : (d : ℕ) (ts : List Tok) → mem (next ts).code (code k.Module ∷ []) ≡ false → mem (next ts).code (code k.Program ∷ []) ≡ false → mem (next ts).code named_items_first ≡ true → reads d description ts ≡ reads d (Map descriptions.Item named_items) ts
 unfolding description

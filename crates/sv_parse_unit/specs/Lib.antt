@@ -1,3 +1,4 @@
 pub mod First
 pub mod Views
+pub mod Elements
 pub mod Files

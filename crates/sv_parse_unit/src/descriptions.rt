@@ -6,7 +6,7 @@ ghost use Rattle.sv_parse.specs.Outcome.{Reads, seen};
 ghost use Rattle.sv_parse.proofs.UnitParts.{description_known, description_repeated};
 ghost use Rattle.sv_parse_unit.specs.First.{description_first};
 
-use crate::elements::{module, program};
+use crate::elements::{Modules, Programs, element};
 use crate::named_items::NamedItems;
 use std::alloc::Global;
 use sv_parse::{Budget, Part, Read, Repeated, begins, expect, is_next, items};
@@ -36,11 +36,13 @@ impl Part for Descriptions {
     #[tactic(auto, using(crate::proofs::ElementLaws::a_module, crate::proofs::ElementLaws::a_program, crate::proofs::ElementLaws::an_item, crate::proofs::ElementLaws::nothing))]
     fn read<'a>(alloc: Global, tokens: &'a [Token], budget: Budget) -> Read<'a, Description> {
         if is_next(tokens, Kind::Module) {
-            let (module, rest) = module(alloc, tokens, budget)?;
+            let (word, rest) = expect(tokens, Kind::Module)?;
+            let (module, rest) = element::<Modules>(alloc, word, rest, budget)?;
             return Ok((Description::Module(Box::new(alloc, module)?), rest));
         }
         if is_next(tokens, Kind::Program) {
-            let (program, rest) = program(alloc, tokens, budget)?;
+            let (word, rest) = expect(tokens, Kind::Program)?;
+            let (program, rest) = element::<Programs>(alloc, word, rest, budget)?;
             return Ok((Description::Program(Box::new(alloc, program)?), rest));
         }
         if begins::<NamedItems>(tokens) {

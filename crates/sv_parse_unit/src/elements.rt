@@ -1,8 +1,16 @@
 // Modules and programs (IEEE 1800-2017, A.1.2).
-ghost use Rattle.std.specs.Prelude.{◌≡◌, List};
+ghost use Rattle.std.specs.Prelude.{◌≡◌};
+ghost use Rattle.sv_grammar.specs.Code.Code.{Rep};
+ghost use Rattle.sv_tree.specs.declared.kind.Kind.TheVariants as k;
+ghost use Rattle.sv_tree.specs.Codes.{tok, toks};
+ghost use Rattle.sv_tree.specs.Forms.{C};
+ghost use Rattle.sv_tree.specs.Grammar.{reads};
+ghost use Rattle.sv_tree.specs.Items as items;
 ghost use Rattle.sv_tree.specs.UnitGrammar as grammar;
 ghost use Rattle.sv_tree.specs.UnitView as view;
-ghost use Rattle.sv_parse.specs.Outcome.{Reads};
+ghost use Rattle.sv_parse.specs.Outcome.{Gives, Reads, seen};
+ghost use Rattle.sv_parse_type.specs.Applied.{applied};
+ghost use Rattle.sv_parse_unit.specs.Elements.{element_rest};
 ghost use Rattle.sv_parse_unit.specs.Views.{element_head};
 
 use crate::items::{ModuleItems, ProgramItems};
@@ -10,7 +18,7 @@ use crate::params::maybe_params;
 use crate::ports::maybe_ports;
 use std::alloc::Global;
 use sv_parse::{Budget, Read, expect, items, label, name, word_or};
-use sv_tree::{DesignElement, Kind, Life, Param, Port, Token};
+use sv_tree::{DesignElement, Item, Kind, Life, Param, Port, Token};
 
 /// The parameters of a design element, where brackets for them are written, and its ports.
 #[derive(Drop)]
@@ -30,41 +38,71 @@ fn element_head<'a>(alloc: Global, tokens: &'a [Token], budget: Budget) -> Read<
     Ok((ElementHead { params, ports }, rest))
 }
 
+/// What tells modules from programs: their items, and the word at their end.
+pub trait ElementKind {
+    /// The production of an item.
+    ghost item: { C items.Item };
+
+    /// The word at the end.
+    ghost end: { Kind };
+
+    /// The word at the end.
+    fn end() -> Kind
+        ensures { result ≡ end };
+
+    /// Reads the items, and tells the tokens after them.
+    fn items<'a>(alloc: Global, tokens: &'a [Token], budget: Budget) -> Read<'a, Vec<Item>>
+        ensures { Reads (seen view.item) budget (Rep item) tokens.now result };
+}
+
 /// `module`
-#[tactic(auto, unfolding(sv_tree::specs::UnitGrammar::module_element))]
-pub fn module<'a>(alloc: Global, tokens: &'a [Token], budget: Budget) -> Read<'a, DesignElement>
-    ensures { Reads view.design_element budget grammar.module_element tokens.now result }
-{
-    let (word, rest) = expect(tokens, Kind::Module)?;
-    let (life, rest) = word_or::<Life>(rest, Life::Unwritten);
-    let (name, rest) = name(alloc, rest)?;
-    let (ElementHead { params, ports }, rest) = element_head(alloc, rest, budget)?;
-    let (items, rest) = items::<ModuleItems>(alloc, rest, budget)?;
-    let (_, rest) = expect(rest, Kind::Endmodule)?;
-    let (label, rest) = label(alloc, rest)?;
-    let element = DesignElement {
-        at: word.at,
-        life,
-        name,
-        params,
-        ports,
-        items,
-        label,
-    };
-    Ok((element, rest))
+pub struct Modules;
+
+impl ElementKind for Modules {
+    ghost item = { grammar.module_item };
+
+    ghost end = { k.Endmodule };
+
+    fn end() -> Kind {
+        Kind::Endmodule
+    }
+
+    fn items<'a>(alloc: Global, tokens: &'a [Token], budget: Budget) -> Read<'a, Vec<Item>> {
+        items::<ModuleItems>(alloc, tokens, budget)
+    }
 }
 
 /// `program`
-#[tactic(auto, unfolding(sv_tree::specs::UnitGrammar::program_element))]
-pub fn program<'a>(alloc: Global, tokens: &'a [Token], budget: Budget) -> Read<'a, DesignElement>
-    ensures { Reads view.design_element budget grammar.program_element tokens.now result }
+pub struct Programs;
+
+impl ElementKind for Programs {
+    ghost item = { grammar.program_item };
+
+    ghost end = { k.Endprogram };
+
+    fn end() -> Kind {
+        Kind::Endprogram
+    }
+
+    fn items<'a>(alloc: Global, tokens: &'a [Token], budget: Budget) -> Read<'a, Vec<Item>> {
+        items::<ProgramItems>(alloc, tokens, budget)
+    }
+}
+
+/// `[life] id [pports] [ports] ";" {item} end [":" id]` after the word of a design element
+pub fn element<'a, K: ElementKind>(
+    alloc: Global,
+    word: &Token,
+    tokens: &'a [Token],
+    budget: Budget,
+) -> Read<'a, DesignElement>
+    ensures { Gives (λ x. (view.design_element x.0, toks x.1.now)) result (applied (tok word.now) (reads budget (element_rest K.item K.end) (toks tokens.now))) }
 {
-    let (word, rest) = expect(tokens, Kind::Program)?;
-    let (life, rest) = word_or::<Life>(rest, Life::Unwritten);
+    let (life, rest) = word_or::<Life>(tokens, Life::Unwritten);
     let (name, rest) = name(alloc, rest)?;
     let (ElementHead { params, ports }, rest) = element_head(alloc, rest, budget)?;
-    let (items, rest) = items::<ProgramItems>(alloc, rest, budget)?;
-    let (_, rest) = expect(rest, Kind::Endprogram)?;
+    let (items, rest) = K::items(alloc, rest, budget)?;
+    let (_, rest) = expect(rest, K::end())?;
     let (label, rest) = label(alloc, rest)?;
     let element = DesignElement {
         at: word.at,
