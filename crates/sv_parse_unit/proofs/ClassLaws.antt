@@ -3,18 +3,15 @@ use Rattle.std.proofs.Common.{◌≡◌, ℕ, suc, ◌+◌, Bool, true, false, c
 use Rattle.std.specs.List.{prefix_len}
 use Rattle.std.proofs.lemmas.List.{append-nil}
 use Rattle.sv_grammar.specs.Tokens.{Tok, next, mem}
-use Rattle.sv_grammar.specs.Language.{Out, Unexpected}
+use Rattle.sv_grammar.specs.Language.{Out}
 use Rattle.sv_grammar.specs.Reading.{◌>>=◌}
 use Rattle.sv_grammar.specs.Code.{list_from}
 use Rattle.sv_grammar.specs.Code.Code.{Map, Rep}
 use Rattle.sv_tree.specs.declared.kind.Kind.TheVariants as k
 use Rattle.sv_tree.specs.declared.token.Token.{Token}
-use Rattle.sv_tree.specs.declared.word.Life.{Life}
 use Rattle.sv_tree.specs.declared.word.Life.TheVariants as life_word
 use Rattle.sv_tree.specs.Codes.{code, tok, toks}
 use Rattle.sv_tree.specs.Classes as classes
-use Rattle.sv_tree.specs.Stmt as stmts
-use Rattle.sv_tree.specs.Types as types
 use Rattle.sv_tree.specs.Forms as forms
 use Rattle.sv_tree.specs.Forms.{◌▸◌, ◌◂◌, any_of, optional, then_}
 use Rattle.sv_tree.specs.TypeGrammar.{type, declarators, decl_of, typed}

@@ -1,5 +1,5 @@
 -- Items of modules and programs: what each begins with.
-use Rattle.std.proofs.Common.{◌≡◌, ◌<◌, ℕ, zero, suc, Bool, true, false, ◌||◌, List, [], ◌∷◌, Ok, Err, refl, ap, ◌∙◌, sym, arith}
+use Rattle.std.proofs.Common.{◌≡◌, ◌<◌, ℕ, zero, suc, true, false, ◌||◌, List, [], ◌∷◌, Ok, Err, refl, ap, ◌∙◌, arith}
 use Rattle.sv_grammar.specs.Tokens.{Tok, next, mem}
 use Rattle.sv_grammar.specs.Language.{Out, TooDeep}
 use Rattle.sv_grammar.specs.Reading.{◌>>=◌}
@@ -10,9 +10,9 @@ use Rattle.sv_tree.specs.declared.word.Name.{Name}
 use Rattle.sv_tree.specs.Codes.{code}
 use Rattle.sv_tree.specs.Stmt as stmts
 use Rattle.sv_tree.specs.Items as items
-use Rattle.sv_tree.specs.Forms.{◌◂◌, name, tok, codes_of, kinds_of}
+use Rattle.sv_tree.specs.Forms.{◌◂◌, name, tok, kinds_of}
 use Rattle.sv_tree.specs.TypeGrammar.{named_decl_rest, word_decl}
-use Rattle.sv_tree.specs.UnitGrammar.{param_words, net_words, procedure_words, named_items, typedef, typedef_rest, class, param, routine, clocking, initial, common, named_decl, program_item, net, assign, always, named_item, module_item}
+use Rattle.sv_tree.specs.UnitGrammar.{param_words, procedure_words, named_items, typedef, typedef_rest, class, param, routine, clocking, initial, common, named_decl, program_item, net, assign, always, named_item, module_item}
 use Rattle.sv_tree.specs.Grammar.{reads}
 use Rattle.sv_tree.proofs.KnownTypes as known_types
 use Rattle.sv_tree.proofs.KnownItems as known

@@ -7,15 +7,15 @@ ghost use Rattle.sv_tree.specs.declared.kind.Kind.TheVariants as k;
 ghost use Rattle.sv_tree.specs.Codes.{code, tok, toks};
 ghost use Rattle.sv_tree.specs.Forms as forms;
 ghost use Rattle.sv_tree.specs.Forms.{◌▸◌, any_of, optional, then_};
-ghost use Rattle.sv_tree.specs.Grammar.{reads};
 ghost use Rattle.sv_tree.specs.Classes as classes;
 ghost use Rattle.sv_tree.specs.Stmt as stmts;
 ghost use Rattle.sv_tree.specs.StmtView as decls;
 ghost use Rattle.sv_tree.specs.UnitGrammar as grammar;
 ghost use Rattle.sv_tree.specs.UnitView as view;
-ghost use Rattle.sv_parse.specs.Outcome.{Gives, Reads};
+ghost use Rattle.sv_parse.specs.Outcome.{Reads};
 ghost use Rattle.sv_parse.proofs.UnitParts.{class_decl_known, class_item_known, class_item_repeated};
-ghost use Rattle.sv_parse_type.specs.Applied.{applied};
+ghost use Rattle.sv_parse_type.specs.Applied.{ReadsAfter};
+ghost use Rattle.sv_parse_unit.specs.After.{ReadsAfterTwo};
 ghost use Rattle.sv_parse_unit.specs.First.{class_decl_first, class_item_first, qualifier_first};
 
 use crate::routines::{head, routine};
@@ -129,7 +129,7 @@ fn member<'a>(
     tokens: &'a [Token],
     budget: Budget,
 ) -> Read<'a, ClassItem>
-    ensures { Gives (λ x. (view.class_item x.0, toks x.1.now)) result (applied (toks words.now) (reads budget grammar.member (toks tokens.now))) }
+    ensures { ReadsAfter view.class_item (toks words.now) budget grammar.member tokens.now result }
 {
     let qualifiers = qualifiers_of(words);
     if begins::<ClassDecls>(tokens) {
@@ -233,7 +233,7 @@ fn class_rest<'a>(
     tokens: &'a [Token],
     budget: Budget,
 ) -> Read<'a, Class>
-    ensures { Gives (λ x. (view.class x.0, toks x.1.now)) result (applied (tok word.now) (applied is_virtual (reads budget grammar.class_rest (toks tokens.now)))) }
+    ensures { ReadsAfterTwo view.class is_virtual (tok word.now) budget grammar.class_rest tokens.now result }
 {
     let (name, rest) = name(alloc, tokens)?;
     let (base, rest) = base(alloc, rest)?;

@@ -5,13 +5,12 @@ ghost use Rattle.sv_tree.specs.declared.kind.Kind.TheVariants as k;
 ghost use Rattle.sv_tree.specs.Codes.{code, toks};
 ghost use Rattle.sv_tree.specs.Forms as forms;
 ghost use Rattle.sv_tree.specs.Forms.{◌◂◌, kinds_of, list, pair};
-ghost use Rattle.sv_tree.specs.Grammar.{reads};
 ghost use Rattle.sv_tree.specs.Units as units;
 ghost use Rattle.sv_tree.specs.UnitGrammar as grammar;
 ghost use Rattle.sv_tree.specs.UnitView as view;
-ghost use Rattle.sv_parse.specs.Outcome.{Gives, Reads, seen};
+ghost use Rattle.sv_parse.specs.Outcome.{Reads, seen};
 ghost use Rattle.sv_parse.proofs.UnitParts.{skew_known, default_skew_known, default_skew_repeated, output_side_known, clocking_item_known, clocking_item_repeated};
-ghost use Rattle.sv_parse_type.specs.Applied.{applied};
+ghost use Rattle.sv_parse_unit.specs.After.{ReadsAfterTwo};
 ghost use Rattle.sv_parse_unit.specs.First.{amount_first, clocking_item_first};
 
 use std::alloc::Global;
@@ -253,7 +252,7 @@ fn block<'a>(
     tokens: &'a [Token],
     budget: Budget,
 ) -> Read<'a, ClockingBlock>
-    ensures { Gives (λ x. (view.clocking x.0, toks x.1.now)) result (applied default (applied block (reads budget grammar.clocking_rest (toks tokens.now)))) }
+    ensures { ReadsAfterTwo view.clocking block default budget grammar.clocking_rest tokens.now result }
 {
     let (_, rest) = expect(tokens, Kind::At)?;
     let (_, rest) = expect(rest, Kind::LeftParenthesis)?;

@@ -1,15 +1,15 @@
 // Modules and programs (IEEE 1800-2017, A.1.2).
 ghost use Rattle.std.specs.Prelude.{◌≡◌};
 ghost use Rattle.sv_grammar.specs.Code.Code.{Rep};
+ghost use Rattle.sv_tree.specs.declared.kind.Kind.{Kind};
 ghost use Rattle.sv_tree.specs.declared.kind.Kind.TheVariants as k;
-ghost use Rattle.sv_tree.specs.Codes.{tok, toks};
+ghost use Rattle.sv_tree.specs.Codes.{tok};
 ghost use Rattle.sv_tree.specs.Forms.{C};
-ghost use Rattle.sv_tree.specs.Grammar.{reads};
 ghost use Rattle.sv_tree.specs.Items as items;
 ghost use Rattle.sv_tree.specs.UnitGrammar as grammar;
 ghost use Rattle.sv_tree.specs.UnitView as view;
-ghost use Rattle.sv_parse.specs.Outcome.{Gives, Reads, seen};
-ghost use Rattle.sv_parse_type.specs.Applied.{applied};
+ghost use Rattle.sv_parse.specs.Outcome.{Reads, seen};
+ghost use Rattle.sv_parse_type.specs.Applied.{ReadsAfter};
 ghost use Rattle.sv_parse_unit.specs.Elements.{element_rest};
 ghost use Rattle.sv_parse_unit.specs.Views.{element_head};
 
@@ -96,7 +96,7 @@ pub fn element<'a, K: ElementKind>(
     tokens: &'a [Token],
     budget: Budget,
 ) -> Read<'a, DesignElement>
-    ensures { Gives (λ x. (view.design_element x.0, toks x.1.now)) result (applied (tok word.now) (reads budget (element_rest K.item K.end) (toks tokens.now))) }
+    ensures { ReadsAfter view.design_element (tok word.now) budget (element_rest K.item K.end) tokens.now result }
 {
     let (life, rest) = word_or::<Life>(tokens, Life::Unwritten);
     let (name, rest) = name(alloc, rest)?;

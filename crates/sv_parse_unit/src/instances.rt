@@ -1,14 +1,14 @@
 // Instances, and what else begins with a name in a module (IEEE 1800-2017, A.4.1.1).
 ghost use Rattle.std.specs.Prelude.{[], ◌∷◌};
 ghost use Rattle.sv_tree.specs.declared.kind.Kind.TheVariants as k;
-ghost use Rattle.sv_tree.specs.Codes.{code, toks};
-ghost use Rattle.sv_tree.specs.Grammar.{reads};
+ghost use Rattle.sv_tree.specs.Codes.{code};
 ghost use Rattle.sv_tree.specs.Units as units;
 ghost use Rattle.sv_tree.specs.UnitGrammar as grammar;
 ghost use Rattle.sv_tree.specs.UnitView as view;
-ghost use Rattle.sv_parse.specs.Outcome.{Gives, Reads};
+ghost use Rattle.sv_parse.specs.Outcome.{Reads};
 ghost use Rattle.sv_parse.proofs.UnitParts.{instance_known, instance_listed};
-ghost use Rattle.sv_parse_type.specs.Applied.{applied};
+ghost use Rattle.sv_parse_type.specs.Applied.{ReadsAfter};
+ghost use Rattle.sv_parse_unit.specs.After.{ReadsAfterTwo};
 
 use crate::connections::Connections;
 use crate::lists::{enclosed_list, enclosed_list_or_none};
@@ -57,7 +57,7 @@ fn valued_instances<'a>(
     tokens: &'a [Token],
     budget: Budget,
 ) -> Read<'a, Item>
-    ensures { Gives (λ x. (view.item x.0, toks x.1.now)) result (applied of (reads budget grammar.valued_instances (toks tokens.now))) }
+    ensures { ReadsAfter view.item of budget grammar.valued_instances tokens.now result }
 {
     let (_, rest) = expect(tokens, Kind::Hash)?;
     let (params, rest) = enclosed_list::<Connections>(alloc, rest, budget)?;
@@ -76,7 +76,7 @@ fn instances_rest<'a>(
     tokens: &'a [Token],
     budget: Budget,
 ) -> Read<'a, Item>
-    ensures { Gives (λ x. (view.item x.0, toks x.1.now)) result (applied first (applied of (reads budget grammar.instances_rest (toks tokens.now)))) }
+    ensures { ReadsAfterTwo view.item of first budget grammar.instances_rest tokens.now result }
 {
     let (connections, rest) = enclosed_list_or_none::<Connections>(alloc, tokens, budget)?;
     let instance = Instance {
@@ -99,7 +99,7 @@ fn decl_rest<'a>(
     tokens: &'a [Token],
     budget: Budget,
 ) -> Read<'a, Item>
-    ensures { Gives (λ x. (view.item x.0, toks x.1.now)) result (applied first (applied of (reads budget grammar.decl_rest (toks tokens.now)))) }
+    ensures { ReadsAfterTwo view.item of first budget grammar.decl_rest tokens.now result }
 {
     let (names, rest) = more_declarators(alloc, first, tokens, budget)?;
     let (_, rest) = expect(rest, Kind::Semicolon)?;

@@ -14,9 +14,7 @@ ghost use Rattle.sv_parse.proofs.UnitParts.{net_item_known, net_item_listed, ass
 ghost use Rattle.sv_parse_unit.specs.First.{target_first};
 
 use std::alloc::Global;
-use sv_parse::{
-    Budget, Listed, Part, Read, ReadError, expect, list, maybe, name, skip, word_or,
-};
+use sv_parse::{Budget, Listed, Part, Read, ReadError, expect, list, maybe, name, skip, word_or};
 use sv_parse_expr::{Values, lval};
 use sv_parse_type::Ranges;
 use sv_tree::{AssignItem, Item, Kind, NetDecl, NetItem, Sign, Token};

@@ -13,9 +13,7 @@ ghost use Rattle.sv_parse_unit.specs.First.{element_param_first};
 use crate::lists::enclosed_list;
 use crate::typed::{ImpliedTypes, TypedName, typed_name};
 use std::alloc::Global;
-use sv_parse::{
-    Budget, Listed, Part, Read, expect, expect_word, is_next, list_after, name, skip,
-};
+use sv_parse::{Budget, Listed, Part, Read, expect, expect_word, is_next, list_after, name, skip};
 use sv_parse_expr::Values;
 use sv_tree::{Kind, Param, ParamItem, ParamWord, Token};
 

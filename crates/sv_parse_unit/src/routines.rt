@@ -20,9 +20,7 @@ use sv_parse::{
 };
 use sv_parse_expr::Values;
 use sv_parse_stmt::{BlockItems, items};
-use sv_tree::{
-    Argument, Direction, Head, ImpliedType, Kind, Life, Name, Returns, Routine, Token,
-};
+use sv_tree::{Argument, Direction, Head, ImpliedType, Kind, Life, Name, Returns, Routine, Token};
 use sv_value::{NoMemory, Text};
 
 // ---- arguments
@@ -69,7 +67,11 @@ impl Listed for Arguments {
 
 /// `[args]`
 #[tactic(auto, using(crate::proofs::RoutineLaws::arguments_written, crate::proofs::RoutineLaws::arguments_unwritten), unfolding(sv_tree::specs::UnitGrammar::arguments))]
-fn maybe_arguments<'a>(alloc: Global, tokens: &'a [Token], budget: Budget) -> Read<'a, Vec<Argument>>
+fn maybe_arguments<'a>(
+    alloc: Global,
+    tokens: &'a [Token],
+    budget: Budget,
+) -> Read<'a, Vec<Argument>>
     ensures { Reads (seen view.argument) budget grammar.maybe_arguments tokens.now result }
 {
     if !is_next(tokens, Kind::LeftParenthesis) {

@@ -12,9 +12,7 @@ ghost use Rattle.sv_parse_unit.specs.First.{implied_first};
 ghost use Rattle.sv_parse_unit.specs.Views.{typed_name};
 
 use std::alloc::Global;
-use sv_parse::{
-    Budget, Part, Read, Word, begins, expect_word, is_next, is_next_word, maybe, name,
-};
+use sv_parse::{Budget, Part, Read, Word, begins, expect_word, is_next, is_next_word, maybe, name};
 use sv_parse_type::{BoxedRanges, begins_word_type, word_type};
 use sv_tree::{AtomWord, ImpliedType, Kind, Name, Sign, Token, VectorWord, WrittenType};
 
