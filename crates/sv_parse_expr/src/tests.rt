@@ -119,25 +119,26 @@ fn groups_right(tree: &Expr) -> bool {
     }
 }
 
-/// Whether the expression of these tokens passes a test.
-fn passes(read: Read<Expr>, test: fn(&Expr) -> bool) -> bool {
+/// The tree that was read.
+fn tree_of(read: Read<Expr>) -> Option<Expr> {
     match read {
-        Ok((tree, _)) => test(&tree),
-        Err(_) => false,
+        Ok((tree, _)) => Some(tree),
+        Err(_) => None,
     }
 }
 
 #[test]
 fn operators_group(rt: HostRuntime) -> Result<(), Fail> {
     let differences = tokens(rt.alloc(), "a - a - a")?;
-    assert!(rt;
-        passes(
-            value(rt.alloc(), &differences, Budget::whole()),
-            groups_left
-        )
-    );
+    match tree_of(value(rt.alloc(), &differences, Budget::whole())) {
+        Some(tree) => assert!(rt; groups_left(&tree)),
+        None => assert!(rt; false),
+    }
     let choices = tokens(rt.alloc(), "a ? a : a ? a : a")?;
-    assert!(rt; passes(value(rt.alloc(), &choices, Budget::whole()), groups_right));
+    match tree_of(value(rt.alloc(), &choices, Budget::whole())) {
+        Some(tree) => assert!(rt; groups_right(&tree)),
+        None => assert!(rt; false),
+    }
     Ok(())
 }
 
