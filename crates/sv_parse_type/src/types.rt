@@ -87,36 +87,29 @@ impl Part for BoxedRanges {
 
 // ---- what begins a type
 
-/// Whether a kind begins a type, but for a name.
-fn word_type_first(kind: Kind) -> bool
-    ensures { result ≡ mem (code kind) word_type_first }
-{
-    matches!(
-        kind,
-        Kind::Bit
-            | Kind::Logic
-            | Kind::Reg
-            | Kind::Byte
-            | Kind::Shortint
-            | Kind::Int
-            | Kind::Longint
-            | Kind::Integer
-            | Kind::Time
-            | Kind::String
-            | Kind::Event
-            | Kind::Semaphore
-            | Kind::Mailbox
-            | Kind::Enum
-    )
-}
-
 /// Whether a type that a word begins comes next.
 pub fn begins_word_type(tokens: &[Token]) -> bool
     ensures { result ≡ mem (next (toks tokens.now)).code word_type_first }
 {
     match tokens {
         [] => false,
-        [first, ..] => word_type_first(first.kind),
+        [first, ..] => matches!(
+            first.kind,
+            Kind::Bit
+                | Kind::Logic
+                | Kind::Reg
+                | Kind::Byte
+                | Kind::Shortint
+                | Kind::Int
+                | Kind::Longint
+                | Kind::Integer
+                | Kind::Time
+                | Kind::String
+                | Kind::Event
+                | Kind::Semaphore
+                | Kind::Mailbox
+                | Kind::Enum
+        ),
     }
 }
 
