@@ -4,7 +4,7 @@ use Rattle.sv_grammar.specs.Tokens.{Tok, next, mem}
 use Rattle.sv_grammar.specs.Reading.{◌>>=◌}
 use Rattle.sv_grammar.specs.Info.{Info}
 use Rattle.sv_grammar.specs.Code.{info}
-use Rattle.sv_grammar.specs.Code.Code.{Map, Alt}
+use Rattle.sv_grammar.specs.Code.Code.{Map}
 use Rattle.sv_tree.specs.declared.kind.Kind.TheVariants as k
 use Rattle.sv_tree.specs.declared.expr.Root.{Root}
 use Rattle.sv_tree.specs.declared.word.Name.{Name}
@@ -18,7 +18,7 @@ use Rattle.sv_tree.specs.Grammar.{heads, need, reads}
 use Rattle.sv_tree.proofs.KnownStmts as known
 use Rattle.sv_parse_type.specs.Applied.{applied}
 use Rattle.sv_parse_stmt.specs.Begins.{assignment_first}
-use Rattle.sv_parse_stmt.proofs.Shapes.{alt_first, applied_made, pair_is, triple_applied}
+use Rattle.sv_parse_stmt.proofs.Shapes.{applied_made, pair_is, triple_applied}
 
 begins_blocking : (info Production Value heads need blocking_rest).first ≡ code k.Equals ∷ []
 begins_blocking = ap (λ (i : Info). i.first) known.blocking_rest_known.info_is

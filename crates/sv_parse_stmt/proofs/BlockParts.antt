@@ -1,10 +1,10 @@
 -- The declarations and the statements among the items of a block.
-use Rattle.std.proofs.Common.{◌≡◌, List, [], ◌∷◌, ◌++◌, map, refl, ap}
+use Rattle.std.proofs.Common.{◌≡◌, List, [], ◌∷◌, map, refl, ap}
 use Rattle.sv_tree.specs.declared.statement.Decl.{Decl}
 use Rattle.sv_tree.specs.declared.statement.Stmt.{Stmt}
 use Rattle.sv_tree.specs.Stmt as stmts
 use Rattle.sv_tree.specs.StmtView.{stmt, stmt_list, decl}
-use Rattle.sv_tree.specs.StmtGrammar.{Declared, Made, decls_of, stmts_of}
+use Rattle.sv_tree.specs.StmtGrammar.{Made, decls_of, stmts_of}
 use Rattle.sv_parse_stmt.specs.Fronts.{after_decls}
 
 made_decls : (ss : List Stmt) → decls_of (map Made (map stmt ss)) ≡ []

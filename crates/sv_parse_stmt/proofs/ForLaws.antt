@@ -1,9 +1,8 @@
 -- The parts of a "for": what each begins with.
-use Rattle.std.proofs.Common.{◌≡◌, ℕ, Bool, true, false, cond, ◌==◌, List, [], ◌∷◌, Ok, Err, ap, refl, sym, ◌∙◌}
+use Rattle.std.proofs.Common.{◌≡◌, ℕ, Bool, true, false, cond, ◌==◌, List, [], ◌∷◌, Ok, Err, refl, ◌∙◌}
 use Rattle.sv_value.specs.declared.place.Place.{Place}
 use Rattle.sv_grammar.specs.Tokens.{Tok, next, mem}
-use Rattle.sv_grammar.specs.Info.{Info}
-use Rattle.sv_grammar.specs.Language.{TooDeep, Unexpected, Out}
+use Rattle.sv_grammar.specs.Language.{Unexpected, Out}
 use Rattle.sv_grammar.specs.Reading.{◌>>=◌, either}
 use Rattle.sv_grammar.specs.Code.{info, least, reach}
 use Rattle.sv_grammar.specs.Code.Code.{Map}

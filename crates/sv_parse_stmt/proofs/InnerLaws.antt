@@ -1,5 +1,5 @@
 -- A statement inside something.
-use Rattle.std.proofs.Common.{◌≡◌, ℕ, ◌+◌, ◌-◌, List, Err, refl, sym, subst, ◌∙◌, arith}
+use Rattle.std.proofs.Common.{◌≡◌, ℕ, ◌+◌, ◌-◌, List, Err, refl, ◌∙◌, arith}
 use Rattle.sv_grammar.specs.Tokens.{Tok}
 use Rattle.sv_grammar.specs.Language.{Unexpected}
 use Rattle.sv_tree.specs.Forms.{Statement, statement}

@@ -4,10 +4,10 @@ use Rattle.sv_grammar.specs.Tokens.{Tok, next, mem}
 use Rattle.sv_grammar.specs.Language.{Out, TooDeep}
 use Rattle.sv_grammar.specs.Reading.{◌>>=◌}
 use Rattle.sv_grammar.specs.Info.{Info}
-use Rattle.sv_grammar.specs.Code.{info, least, reach}
+use Rattle.sv_grammar.specs.Code.{reach}
 use Rattle.sv_grammar.specs.Code.Code.{Alt}
-use Rattle.sv_tree.specs.Forms.{Production, Value, C, pair, triple, then_}
-use Rattle.sv_tree.specs.Grammar.{heads, need, reads}
+use Rattle.sv_tree.specs.Forms.{C, pair, triple, then_}
+use Rattle.sv_tree.specs.Grammar.{reads}
 use Rattle.sv_tree.proofs.Known.{IsKnown}
 use Rattle.sv_parse.specs.Outcome.{Fails}
 use Rattle.sv_parse.specs.declared.tokens.ReadError.{ReadError}

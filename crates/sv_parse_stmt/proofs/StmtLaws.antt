@@ -1,5 +1,5 @@
 -- Statements by what stands at their front: a name, a label, or neither.
-use Rattle.std.proofs.Common.{◌≡◌, ℕ, Bool, true, false, cond, ◌&&◌, List, [], ◌∷◌, Option, Some, None, drop, Ok, Err, refl, ap, sym, ◌∙◌}
+use Rattle.std.proofs.Common.{◌≡◌, ℕ, Bool, true, false, ◌&&◌, List, [], ◌∷◌, Some, None, drop, Ok, Err, refl, ap, sym, ◌∙◌}
 use Rattle.sv_grammar.specs.Tokens.{Tok, next, mem}
 use Rattle.sv_grammar.specs.Language.{Out}
 use Rattle.sv_grammar.specs.Reading.{◌>>=◌, one_of}
@@ -15,7 +15,7 @@ use Rattle.sv_tree.proofs.KnownStmts as known
 use Rattle.sv_parse_type.specs.Applied.{applied}
 use Rattle.sv_parse_stmt.specs.Statements.{labelled}
 use Rattle.sv_parse_stmt.proofs.KindLaws.{is_one}
-use Rattle.sv_parse_stmt.proofs.Shapes.{made, beside, applied_made, pair_is, then_is}
+use Rattle.sv_parse_stmt.proofs.Shapes.{made, beside, pair_is, then_is}
 
 -- ---- the choices
 

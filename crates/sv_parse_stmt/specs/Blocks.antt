@@ -1,5 +1,5 @@
 -- The items of a block, as the grammar sees them (IEEE 1800-2017, A.2.8 and A.6.3).
-use Rattle.std.specs.Prelude.{◌≡◌, ℕ, Bool, false, List, ◌++◌, map, Result, Ok, Err, Vec}
+use Rattle.std.specs.Prelude.{◌≡◌, ℕ, Bool, false, List, map, Result, Ok, Err, Vec}
 use Rattle.std.specs.Borrow.{Bor}
 use Rattle.std.specs.Global.{Global}
 use Rattle.sv_grammar.specs.Tokens.{Tok, next, mem}

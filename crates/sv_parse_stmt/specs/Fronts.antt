@@ -14,7 +14,7 @@ use Rattle.sv_tree.specs.Expr as tree
 use Rattle.sv_tree.specs.Stmt as stmts
 use Rattle.sv_tree.specs.View.{expr}
 use Rattle.sv_tree.specs.StmtView as view
-use Rattle.sv_tree.specs.Forms.{Placed, C, ◌▸◌, ◌◂◌, in_parentheses, label, stacked, statement, tok, word}
+use Rattle.sv_tree.specs.Forms.{Placed, ◌▸◌, ◌◂◌, in_parentheses, label, stacked, statement, tok, word}
 use Rattle.sv_tree.specs.ExprGrammar as expressions
 use Rattle.sv_tree.specs.StmtGrammar as grammar
 use Rattle.sv_tree.specs.StmtGrammar.{BlockItem, Declared, Made}

@@ -38,7 +38,10 @@ pub enum Head {
     /// `"forever"`
     Forever,
     /// `"foreach" "(" id "[" id "]" ")"`
-    Foreach { array: Name, index: Name },
+    Foreach {
+        array: Name,
+        index: Name,
+    },
     /// `delay`
     After(Delay),
     /// `"@" event`

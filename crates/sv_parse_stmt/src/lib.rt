@@ -1,6 +1,13 @@
 //! Reading statements.
 //!
 //! The parser descends by recursion with one token of look-ahead, over a budget of depth, as that of expressions does.
+//! 1. The front of a form, up to its first inner statement, is read outside the recursion, and says what is left (`front`): that of forms
+//!    that hold none in `simple`, of the others in `heads` and `blocks`; `unnamed` tells which form begins with the next token;
+//! 2. `reader` reads the inner statements; what stands after them is read, and the form made, outside the recursion again (`front`,
+//!    `blocks`, `cases`);
+//! 3. delays, event controls, assignments and the parts of a `for` have files of their own.
+//!
+//! Each contract says that a reader gives what reading its production gives (`Reads`, `Gives`). `stmt` says in full what that is.
 #![tactic(auto)]
 
 mod assignments;
@@ -14,6 +21,8 @@ mod front;
 mod heads;
 mod reader;
 mod simple;
+#[cfg(test)]
+mod tests;
 mod unnamed;
 mod whole;
 

@@ -1,4 +1,4 @@
-use Rattle.std.proofs.Common.{rules, arith}
+use Rattle.std.proofs.Common.{arith}
 use Rattle.sv_tree.specs.Codes.{toks}
 use Rattle.sv_parse_stmt.proofs.BlockLaws.{opens_late, opens_low}
 use Rattle.sv_parse_stmt.proofs.blocks.opening.Goals as goal
