@@ -3,3 +3,4 @@ pub mod PartLaws
 pub mod ExprParts
 pub mod TypeParts
 pub mod StmtParts
+pub mod UnitParts

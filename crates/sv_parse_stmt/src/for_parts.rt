@@ -11,7 +11,7 @@ ghost use Rattle.sv_parse_type.specs.Applied.{applied};
 ghost use Rattle.sv_parse_stmt.specs.Begins.{lval_first};
 
 use std::alloc::Global;
-use sv_parse::{Budget, Part, Read, expect_word, is_next, is_next_word, name, next_kind};
+use sv_parse::{Budget, Part, Read, expect_word, is_next, is_next_word, name};
 use sv_parse_expr::{Values, lval, named_root, scope, suffixes, value};
 use sv_parse_type::{begins_word_type, word_type};
 use sv_tree::{
@@ -24,10 +24,13 @@ use sv_value::Place;
 fn begins_lval(tokens: &[Token]) -> bool
     ensures { result ≡ mem (next (toks tokens.now)).code lval_first }
 {
-    matches!(
-        next_kind(tokens),
-        Some(Kind::Name | Kind::This | Kind::Super | Kind::LeftBrace)
-    )
+    match tokens {
+        [] => false,
+        [first, ..] => matches!(
+            first.kind,
+            Kind::Name | Kind::This | Kind::Super | Kind::LeftBrace
+        ),
+    }
 }
 
 /// The place of the first token of a root.

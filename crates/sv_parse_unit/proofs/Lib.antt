@@ -1,14 +1,9 @@
-pub mod Lows
-pub mod ImpliedLaws
-pub mod ParamLaws
-pub mod PortLaws
-pub mod RoutineLaws
 pub mod AppliedLaws
+pub mod TypedLaws
+pub mod ElementLaws
+pub mod RoutineLaws
 pub mod ClockingLaws
 pub mod ClassLaws
 pub mod InstanceLaws
-pub mod NetLaws
 pub mod ItemLaws
-pub mod UnitLaws
-pub mod UnitLoops
 pub mod Exact

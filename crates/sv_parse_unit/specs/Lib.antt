@@ -1,3 +1,5 @@
-pub mod Begins
+pub mod First
 pub mod Views
+pub mod Elements
+pub mod After
 pub mod Files

@@ -1,86 +1,101 @@
 // Classes (IEEE 1800-2017, A.1.2 and A.1.9).
-ghost use Rattle.std.specs.Prelude.{◌≡◌, ◌≤◌, length, map, true};
+ghost use Rattle.std.specs.Prelude.{◌≡◌, ◌≤◌, length};
 ghost use Rattle.std.specs.List.{prefix_len};
-ghost use Rattle.sv_grammar.specs.Tokens.{mem, next};
+ghost use Rattle.sv_grammar.specs.Tokens.{mem};
 ghost use Rattle.sv_grammar.specs.Code.Code.{Rep};
 ghost use Rattle.sv_tree.specs.declared.kind.Kind.TheVariants as k;
 ghost use Rattle.sv_tree.specs.Codes.{code, tok, toks};
 ghost use Rattle.sv_tree.specs.Forms as forms;
-ghost use Rattle.sv_tree.specs.Forms.{◌▸◌, optional};
-ghost use Rattle.sv_tree.specs.StmtView.{decl};
+ghost use Rattle.sv_tree.specs.Forms.{◌▸◌, any_of, optional, then_};
+ghost use Rattle.sv_tree.specs.Classes as classes;
+ghost use Rattle.sv_tree.specs.Stmt as stmts;
+ghost use Rattle.sv_tree.specs.StmtView as decls;
 ghost use Rattle.sv_tree.specs.UnitGrammar as grammar;
 ghost use Rattle.sv_tree.specs.UnitView as view;
-ghost use Rattle.sv_tree.specs.Grammar.{reads};
-ghost use Rattle.sv_parse_expr.specs.Outcome.{Gives};
-ghost use Rattle.sv_parse_stmt.specs.Applied.{applied};
-ghost use Rattle.sv_parse_unit.specs.Begins.{qualifier_first};
+ghost use Rattle.sv_parse.specs.Outcome.{Reads};
+ghost use Rattle.sv_parse.proofs.UnitParts.{class_decl_known, class_item_known, class_item_repeated};
+ghost use Rattle.sv_parse_type.specs.Applied.{ReadsAfter};
+ghost use Rattle.sv_parse_unit.specs.After.{ReadsAfterTwo};
+ghost use Rattle.sv_parse_unit.specs.First.{class_decl_first, class_item_first, qualifier_first};
 
-use crate::begins::{begins_class_decl, begins_class_item, begins_qualifier, is_qualifier};
 use crate::routines::{head, routine};
-use crate::typedefs::typedef_member;
-use crate::words::skip;
+use crate::typed::is_type_word;
+use crate::typedefs::class_typedef;
 use std::alloc::Global;
-use sv_parse_expr::{code_of, expect, is_next, name};
-use sv_parse_stmt::{Read, declarators, label_of, written_type};
-use sv_tree::{Class, ClassItem, Decl, Kind, Life, Name, Qualifiers, Token};
+use sv_parse::{
+    Budget, Part, Read, Repeated, begins, code_of, expect, is_next, items, label, name, skip,
+};
+use sv_parse_type::typed;
+use sv_tree::{
+    Class, ClassItem, Decl, Kind, Life, Method, Name, Property, PureMethod, Qualifiers, Token,
+};
 
 // ---- declarations
 
-/// `type list(..) ";"` after the words before it
-fn typed_decl<'a>(alloc: Global, life: Life, tokens: &'a [Token], budget: u32) -> Read<'a, Decl>
-    requires { budget ≤ 200 }
-    ensures { Gives (λ x. (decl x.0, toks x.1.now)) result (reads budget (grammar.class_typed life) (toks tokens.now)) }
-{
-    let (ty, rest) = written_type(alloc, tokens, budget)?;
-    let ty = Box::new(alloc, ty)?;
-    let (names, rest) = declarators(alloc, rest, budget)?;
-    let (_, rest) = expect(rest, Kind::Semicolon)?;
-    let decl = Decl {
-        life,
-        ty: Box::into_inner(ty),
-        names,
-    };
-    Ok((decl, rest))
-}
-
-/// `"automatic" ["var"] type list(..) ";"`
-#[tactic(auto, unfolding(sv_tree::specs::UnitGrammar::automatic_decl))]
-fn automatic_decl<'a>(alloc: Global, tokens: &'a [Token], budget: u32) -> Read<'a, Decl>
-    requires { budget ≤ 200 }
-    ensures { Gives (λ x. (decl x.0, toks x.1.now)) result (reads budget grammar.automatic_decl (toks tokens.now)) }
-{
-    let (_, rest) = expect(tokens, Kind::Automatic)?;
-    let rest = skip(rest, Kind::Var);
-    let (ty, rest) = written_type(alloc, rest, budget)?;
-    let ty = Box::new(alloc, ty)?;
-    let (names, rest) = declarators(alloc, rest, budget)?;
-    let (_, rest) = expect(rest, Kind::Semicolon)?;
-    let decl = Decl {
-        life: Life::Automatic,
-        ty: Box::into_inner(ty),
-        names,
-    };
-    Ok((decl, rest))
-}
-
 /// A declaration in a class, in which `static` is no life.
-#[tactic(auto, using(crate::proofs::ClassLaws::decl_automatic, crate::proofs::ClassLaws::decl_var, crate::proofs::ClassLaws::decl_typed))]
-fn class_decl<'a>(alloc: Global, tokens: &'a [Token], budget: u32) -> Read<'a, Decl>
-    requires { budget ≤ 200 }
-    ensures { Gives (λ x. (decl x.0, toks x.1.now)) result (reads budget grammar.class_decl (toks tokens.now)) }
-{
-    if is_next(tokens, Kind::Automatic) {
-        return automatic_decl(alloc, tokens, budget);
+pub struct ClassDecls;
+
+impl Part for ClassDecls {
+    type Tree = Decl;
+
+    ghost Seen = { stmts.Decl };
+
+    ghost production = { grammar.class_decl };
+
+    ghost view = { decls.decl };
+
+    ghost first = { class_decl_first };
+
+    #[tactic(auto, using(sv_parse::proofs::ExprParts::mem_both))]
+    fn begins(kind: Kind) -> bool {
+        matches!(kind, Kind::Automatic | Kind::Var) || is_type_word(kind) || kind == Kind::Name
     }
-    if is_next(tokens, Kind::Var) {
-        let (_, rest) = expect(tokens, Kind::Var)?;
-        let (decl, rest) = typed_decl(alloc, Life::Unwritten, rest, budget)?;
-        return Ok((decl, rest));
+
+    #[tactic(auto, using(crate::proofs::ClassLaws::decl_automatic, crate::proofs::ClassLaws::decl_var, crate::proofs::ClassLaws::decl_typed))]
+    fn read<'a>(alloc: Global, tokens: &'a [Token], budget: Budget) -> Read<'a, Decl> {
+        if is_next(tokens, Kind::Automatic) {
+            let (_, rest) = expect(tokens, Kind::Automatic)?;
+            let (_, rest) = skip(rest, Kind::Var);
+            return typed(alloc, Life::Automatic, rest, budget);
+        }
+        if is_next(tokens, Kind::Var) {
+            let (_, rest) = expect(tokens, Kind::Var)?;
+            return typed(alloc, Life::Unwritten, rest, budget);
+        }
+        typed(alloc, Life::Unwritten, tokens, budget)
     }
-    typed_decl(alloc, Life::Unwritten, tokens, budget)
+
+    ghost is_known = { class_decl_known };
 }
 
 // ---- qualifiers
+
+/// Whether a kind is a qualifier of an item of a class.
+fn is_qualifier(kind: Kind) -> bool
+    ensures { result ≡ mem (code kind) qualifier_first }
+{
+    matches!(
+        kind,
+        Kind::Local | Kind::Protected | Kind::Static | Kind::Virtual
+    )
+}
+
+/// How many qualifiers come next.
+fn qualifier_count(tokens: &[Token]) -> usize
+    ensures value { result ≡ prefix_len (λ t. mem (code t.kind) qualifier_first) tokens.now }
+    ensures within { result ≤ length tokens.now }
+{
+    match tokens {
+        [] => 0,
+        [first, rest @ ..] => {
+            if is_qualifier(first.kind) {
+                1 + qualifier_count(rest)
+            } else {
+                0
+            }
+        }
+    }
+}
 
 /// Whether a word is among tokens.
 fn has_word(tokens: &[Token], kind: Kind) -> bool
@@ -104,23 +119,6 @@ fn qualifiers_of(words: &[Token]) -> Qualifiers
     }
 }
 
-/// How many qualifiers come next.
-fn qualifier_count(tokens: &[Token]) -> usize
-    ensures value { result ≡ prefix_len (λ t. mem (code t.kind) qualifier_first) tokens.now }
-    ensures within { result ≤ length tokens.now }
-{
-    match tokens {
-        [] => 0,
-        [first, rest @ ..] => {
-            if is_qualifier(first.kind) {
-                1 + qualifier_count(rest)
-            } else {
-                0
-            }
-        }
-    }
-}
-
 // ---- items
 
 /// `decl | routine`, after the words before it
@@ -129,112 +127,120 @@ fn member<'a>(
     alloc: Global,
     words: &[Token],
     tokens: &'a [Token],
-    budget: u32,
+    budget: Budget,
 ) -> Read<'a, ClassItem>
-    requires { budget ≤ 200 }
-    ensures { Gives (λ x. (view.class_item x.0, toks x.1.now)) result (applied (toks words.now) (reads budget grammar.member (toks tokens.now))) }
+    ensures { ReadsAfter view.class_item (toks words.now) budget grammar.member tokens.now result }
 {
-    if begins_class_decl(tokens) {
-        let (decl, rest) = class_decl(alloc, tokens, budget)?;
-        return Ok((ClassItem::Property(qualifiers_of(words), decl), rest));
+    let qualifiers = qualifiers_of(words);
+    if begins::<ClassDecls>(tokens) {
+        let (decl, rest) = ClassDecls::read(alloc, tokens, budget)?;
+        let property = Box::new(alloc, Property { qualifiers, decl })?;
+        return Ok((ClassItem::Property(property), rest));
     }
     let (routine, rest) = routine(alloc, tokens, budget)?;
-    Ok((ClassItem::Method(qualifiers_of(words), routine), rest))
+    let method = Method {
+        qualifiers,
+        routine,
+    };
+    Ok((ClassItem::Method(Box::new(alloc, method)?), rest))
 }
 
-/// `"pure" "virtual" head ";"`
-#[tactic(auto, unfolding(sv_tree::specs::UnitGrammar::pure_method))]
-fn pure_method<'a>(alloc: Global, tokens: &'a [Token], budget: u32) -> Read<'a, ClassItem>
-    requires { budget ≤ 200 }
-    ensures { Gives (λ x. (view.class_item x.0, toks x.1.now)) result (reads budget grammar.pure_method (toks tokens.now)) }
-{
-    let (word, rest) = expect(tokens, Kind::Pure)?;
-    let (_, rest) = expect(rest, Kind::Virtual)?;
-    let (head, rest) = head(alloc, rest, budget)?;
-    let (_, rest) = expect(rest, Kind::Semicolon)?;
-    Ok((ClassItem::Pure(word.at, Box::into_inner(head)), rest))
-}
-
-/// Qualifiers, and `decl | routine`, where a qualifier comes first
-fn qualified<'a>(alloc: Global, tokens: &'a [Token], budget: u32) -> Read<'a, ClassItem>
-    requires low { budget ≤ 200 }
-    requires some { mem (next (toks tokens.now)).code qualifier_first ≡ true }
-    ensures { Gives (λ x. (view.class_item x.0, toks x.1.now)) result (reads budget grammar.qualified (toks tokens.now)) }
+/// `{"local" | "protected" | "static" | "virtual"} (decl | routine)`
+fn qualified<'a>(alloc: Global, tokens: &'a [Token], budget: Budget) -> Read<'a, ClassItem>
+    ensures { Reads view.class_item budget (then_ (Rep (any_of grammar.qualifier_words)) grammar.member) tokens.now result }
 {
     let count = qualifier_count(tokens);
     member(alloc, &tokens[..count], &tokens[count..], budget)
 }
 
-/// `citem`
-#[tactic(auto, using(crate::proofs::ClassLaws::item_pure, crate::proofs::ClassLaws::item_typedef, crate::proofs::ClassLaws::item_null, crate::proofs::ClassLaws::item_qualified, crate::proofs::ClassLaws::item_member))]
-fn class_item<'a>(alloc: Global, tokens: &'a [Token], budget: u32) -> Read<'a, ClassItem>
-    requires { budget ≤ 200 }
-    ensures { Gives (λ x. (view.class_item x.0, toks x.1.now)) result (reads budget grammar.class_item (toks tokens.now)) }
+/// `"pure" "virtual" head ";"`
+#[tactic(auto, unfolding(sv_tree::specs::UnitGrammar::pure_method))]
+fn pure_method<'a>(alloc: Global, tokens: &'a [Token], budget: Budget) -> Read<'a, ClassItem>
+    ensures { Reads view.class_item budget grammar.pure_method tokens.now result }
 {
-    if is_next(tokens, Kind::Pure) {
-        return pure_method(alloc, tokens, budget);
-    }
-    if is_next(tokens, Kind::Typedef) {
-        return typedef_member(alloc, tokens, budget);
-    }
-    if is_next(tokens, Kind::Semicolon) {
-        let (_, rest) = expect(tokens, Kind::Semicolon)?;
-        return Ok((ClassItem::Null, rest));
-    }
-    if begins_qualifier(tokens) {
-        return qualified(alloc, tokens, budget);
-    }
-    member(alloc, &[], tokens, budget)
+    let (word, rest) = expect(tokens, Kind::Pure)?;
+    let (_, rest) = expect(rest, Kind::Virtual)?;
+    let (head, rest) = head(alloc, rest, budget)?;
+    let (_, rest) = expect(rest, Kind::Semicolon)?;
+    let method = PureMethod { at: word.at, head };
+    Ok((ClassItem::Pure(Box::new(alloc, method)?), rest))
 }
 
-/// `{citem}`
-#[tactic(auto, using(crate::proofs::ClassLaws::items_are, crate::proofs::ClassLaws::items_stop))]
-fn class_items<'a>(alloc: Global, tokens: &'a [Token], budget: u32) -> Read<'a, Vec<ClassItem>>
-    requires { budget ≤ 200 }
-    ensures { Gives (λ x. (map view.class_item x.0.items, toks x.1.now)) result (reads budget (Rep grammar.class_item) (toks tokens.now)) }
-{
-    let mut list = Vec::new(alloc);
-    let mut rest = tokens;
-    'items: while begins_class_item(rest) {
-        let (item, after) = class_item(alloc, rest, budget)?;
-        list.push(item)?;
-        rest = after;
+/// `citem`
+pub struct ClassItems;
+
+impl Part for ClassItems {
+    type Tree = ClassItem;
+
+    ghost Seen = { classes.ClassItem };
+
+    ghost production = { grammar.class_item };
+
+    ghost view = { view.class_item };
+
+    ghost first = { class_item_first };
+
+    #[tactic(auto, using(sv_parse::proofs::ExprParts::mem_both))]
+    fn begins(kind: Kind) -> bool {
+        matches!(kind, Kind::Pure | Kind::Typedef | Kind::Semicolon)
+            || is_qualifier(kind)
+            || ClassDecls::begins(kind)
+            || matches!(kind, Kind::Function | Kind::Task)
     }
-    Ok((list, rest))
+
+    #[tactic(auto, using(crate::proofs::ClassLaws::item_pure, crate::proofs::ClassLaws::item_typedef, crate::proofs::ClassLaws::item_null, crate::proofs::ClassLaws::item_member))]
+    fn read<'a>(alloc: Global, tokens: &'a [Token], budget: Budget) -> Read<'a, ClassItem> {
+        if is_next(tokens, Kind::Pure) {
+            return pure_method(alloc, tokens, budget);
+        }
+        if is_next(tokens, Kind::Typedef) {
+            return class_typedef(alloc, tokens, budget);
+        }
+        if is_next(tokens, Kind::Semicolon) {
+            let (_, rest) = expect(tokens, Kind::Semicolon)?;
+            return Ok((ClassItem::Null, rest));
+        }
+        qualified(alloc, tokens, budget)
+    }
+
+    ghost is_known = { class_item_known };
+}
+
+impl Repeated for ClassItems {
+    ghost is_repeated = { class_item_repeated };
 }
 
 // ---- classes
 
 /// `["extends" id]`
-fn base(alloc: Global, tokens: &[Token]) -> Read<Option<Name>>
-    ensures { Gives (λ x. (x.0, toks x.1.now)) result (reads 0 (optional (k.Extends ▸ forms.name)) (toks tokens.now)) }
+fn base(tokens: &[Token]) -> Read<Option<Name>>
+    ensures { Reads (λ n. n) 0 (optional (k.Extends ▸ forms.name)) tokens.now result }
 {
     if !is_next(tokens, Kind::Extends) {
         return Ok((None, tokens));
     }
     let (_, rest) = expect(tokens, Kind::Extends)?;
-    let (name, rest) = name(alloc, rest)?;
+    let (name, rest) = name(rest)?;
     Ok((Some(name), rest))
 }
 
-/// What follows the first words of a class.
+/// `id ["extends" id] ";" {citem} "endclass" [":" id]` after the first words of a class, which stands at the first
 #[tactic(auto, unfolding(sv_tree::specs::UnitGrammar::class_rest))]
 fn class_rest<'a>(
     alloc: Global,
     is_virtual: bool,
     word: &Token,
     tokens: &'a [Token],
-    budget: u32,
+    budget: Budget,
 ) -> Read<'a, Class>
-    requires { budget ≤ 200 }
-    ensures { Gives (λ x. (view.class x.0, toks x.1.now)) result (applied (tok word.now) (applied is_virtual (reads budget grammar.class_rest (toks tokens.now)))) }
+    ensures { ReadsAfterTwo view.class is_virtual (tok word.now) budget grammar.class_rest tokens.now result }
 {
-    let (name, rest) = name(alloc, tokens)?;
-    let (base, rest) = base(alloc, rest)?;
+    let (name, rest) = name(tokens)?;
+    let (base, rest) = base(rest)?;
     let (_, rest) = expect(rest, Kind::Semicolon)?;
-    let (items, rest) = class_items(alloc, rest, budget)?;
+    let (items, rest) = items::<ClassItems>(alloc, rest, budget)?;
     let (_, rest) = expect(rest, Kind::Endclass)?;
-    let (label, rest) = label_of(alloc, rest)?;
+    let (label, rest) = label(rest)?;
     let class = Class {
         at: word.at,
         is_virtual,
@@ -246,35 +252,16 @@ fn class_rest<'a>(
     Ok((class, rest))
 }
 
-/// `"virtual" "class" id ..`
-#[tactic(auto, using(crate::proofs::ClassLaws::virtual_is))]
-fn virtual_class<'a>(alloc: Global, tokens: &'a [Token], budget: u32) -> Read<'a, Class>
-    requires { budget ≤ 200 }
-    ensures { Gives (λ x. (view.class x.0, toks x.1.now)) result (reads budget grammar.virtual_class (toks tokens.now)) }
-{
-    let (word, rest) = expect(tokens, Kind::Virtual)?;
-    let (_, rest) = expect(rest, Kind::Class)?;
-    class_rest(alloc, true, word, rest, budget)
-}
-
-/// `"class" id ..`
-#[tactic(auto, using(crate::proofs::ClassLaws::plain_is))]
-fn plain_class<'a>(alloc: Global, tokens: &'a [Token], budget: u32) -> Read<'a, Class>
-    requires { budget ≤ 200 }
-    ensures { Gives (λ x. (view.class x.0, toks x.1.now)) result (reads budget grammar.plain_class (toks tokens.now)) }
-{
-    let (word, rest) = expect(tokens, Kind::Class)?;
-    class_rest(alloc, false, word, rest, budget)
-}
-
 /// `class`
 #[tactic(auto, using(crate::proofs::ClassLaws::class_virtual, crate::proofs::ClassLaws::class_plain))]
-pub fn class<'a>(alloc: Global, tokens: &'a [Token], budget: u32) -> Read<'a, Class>
-    requires { budget ≤ 200 }
-    ensures { Gives (λ x. (view.class x.0, toks x.1.now)) result (reads budget grammar.class (toks tokens.now)) }
+pub fn class<'a>(alloc: Global, tokens: &'a [Token], budget: Budget) -> Read<'a, Class>
+    ensures { Reads view.class budget grammar.class tokens.now result }
 {
     if is_next(tokens, Kind::Virtual) {
-        return virtual_class(alloc, tokens, budget);
+        let (word, rest) = expect(tokens, Kind::Virtual)?;
+        let (_, rest) = expect(rest, Kind::Class)?;
+        return class_rest(alloc, true, word, rest, budget);
     }
-    plain_class(alloc, tokens, budget)
+    let (word, rest) = expect(tokens, Kind::Class)?;
+    class_rest(alloc, false, word, rest, budget)
 }

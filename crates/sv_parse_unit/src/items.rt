@@ -1,157 +1,188 @@
 // Items of modules and programs (IEEE 1800-2017, A.1.4 and A.1.7).
-ghost use Rattle.std.specs.Prelude.{◌<◌, ◌≤◌};
-ghost use Rattle.sv_grammar.specs.Code.Code.{Map};
-ghost use Rattle.sv_tree.specs.declared.kind.Kind.TheVariants as k;
-ghost use Rattle.sv_tree.specs.Codes.{toks};
-ghost use Rattle.sv_tree.specs.Forms.{◌◂◌};
-ghost use Rattle.sv_tree.specs.Units as units;
+ghost use Rattle.sv_tree.specs.Items as items;
 ghost use Rattle.sv_tree.specs.UnitGrammar as grammar;
 ghost use Rattle.sv_tree.specs.UnitView as view;
-ghost use Rattle.sv_tree.specs.Grammar.{reads};
-ghost use Rattle.sv_parse_expr.specs.Outcome.{Gives};
+ghost use Rattle.sv_parse.specs.Outcome.{Reads};
+ghost use Rattle.sv_parse.proofs.UnitParts.{common_known, program_item_known, program_item_repeated, module_item_known, module_item_repeated};
+ghost use Rattle.sv_parse_unit.specs.First.{common_first, program_item_first, module_item_first};
 
-use crate::begins::{
-    begins_class, begins_clocking, begins_common, begins_named_items, begins_word_decl,
-};
-use crate::classes::class;
 use crate::clocking::clocking;
 use crate::instances::named_item;
+use crate::named_items::NamedItems;
 use crate::nets::{assign, net};
-use crate::params::param;
-use crate::routines::routine;
-use crate::typedefs::typedef_item;
-use crate::words::{is_net_word, is_param, is_procedure, procedure};
+use crate::typed::is_type_word;
 use std::alloc::Global;
-use sv_parse_expr::{expect, is_next, name};
-use sv_parse_stmt::{Read, named_decl_rest, statement, word_decl};
-use sv_tree::{Item, Kind, Procedure, Token};
+use sv_parse::{
+    Budget, Part, Read, Repeated, Word, begins, expect, expect_word, is_next, is_next_word, name,
+};
+use sv_parse_stmt::statement;
+use sv_parse_type::{begins_word_decl, named_decl_rest, word_decl};
+use sv_tree::{Item, Kind, Life, Procedure, ProcedureWord, Token};
 
 // ---- items that stand in modules and programs
 
-/// `param ";"`
-fn parameter<'a>(alloc: Global, tokens: &'a [Token], budget: u32) -> Read<'a, Item>
-    requires { budget ≤ 200 }
-    ensures { Gives (λ x. (view.item x.0, toks x.1.now)) result (reads budget (Map units.Parameter (grammar.param ◂ k.Semicolon)) (toks tokens.now)) }
-{
-    let (param, rest) = param(alloc, tokens, budget)?;
-    let (_, rest) = expect(rest, Kind::Semicolon)?;
-    Ok((Item::Param(param), rest))
-}
-
-/// `typedef | class | param ";" | routine`, which also stand outside modules and programs
-#[tactic(auto, using(crate::proofs::ItemLaws::items_typedef, crate::proofs::ItemLaws::items_class, crate::proofs::ItemLaws::items_param, crate::proofs::ItemLaws::items_routine))]
-pub fn named_items<'a>(alloc: Global, tokens: &'a [Token], budget: u32) -> Read<'a, Item>
-    requires { budget ≤ 200 }
-    ensures { Gives (λ x. (view.item x.0, toks x.1.now)) result (reads budget grammar.named_items (toks tokens.now)) }
-{
-    if is_next(tokens, Kind::Typedef) {
-        return typedef_item(alloc, tokens, budget);
-    }
-    if begins_class(tokens) {
-        let (class, rest) = class(alloc, tokens, budget)?;
-        return Ok((Item::Class(class), rest));
-    }
-    if is_param(tokens) {
-        return parameter(alloc, tokens, budget);
-    }
-    let (routine, rest) = routine(alloc, tokens, budget)?;
-    Ok((Item::Routine(routine), rest))
-}
-
 /// `"initial" stmt`
-#[tactic(auto, using(sv_tree::proofs::Good::inner_is), unfolding(sv_tree::specs::UnitGrammar::initial))]
-fn initial<'a>(alloc: Global, tokens: &'a [Token], budget: u32) -> Read<'a, Item>
-    requires some { 0 < budget }
-    requires low { budget ≤ 200 }
-    ensures { Gives (λ x. (view.item x.0, toks x.1.now)) result (reads budget grammar.initial (toks tokens.now)) }
+#[tactic(auto, unfolding(sv_tree::specs::UnitGrammar::initial))]
+fn initial<'a>(alloc: Global, tokens: &'a [Token], budget: Budget) -> Read<'a, Item>
+    ensures { Reads view.item budget grammar.initial tokens.now result }
 {
-    let (word, rest) = expect(tokens, Kind::Initial)?;
-    let (body, rest) = statement(alloc, rest, budget - 1)?;
-    Ok((Item::Procedure(word.at, Procedure::Initial, body), rest))
+    let (first, rest) = expect(tokens, Kind::Initial)?;
+    let (body, rest) = statement(alloc, rest, budget)?;
+    let procedure = Procedure {
+        at: first.at,
+        word: ProcedureWord::Initial,
+        body,
+    };
+    Ok((Item::Procedure(Box::new(alloc, procedure)?), rest))
 }
 
 /// What modules and programs have in common, but for declarations that a name begins
-#[tactic(auto, using(crate::proofs::ItemLaws::common_decl, crate::proofs::ItemLaws::common_named, crate::proofs::ItemLaws::common_clocking, crate::proofs::ItemLaws::common_initial, crate::proofs::ItemLaws::common_null))]
-fn common<'a>(alloc: Global, tokens: &'a [Token], budget: u32) -> Read<'a, Item>
-    requires some { 0 < budget }
-    requires low { budget ≤ 200 }
-    ensures { Gives (λ x. (view.item x.0, toks x.1.now)) result (reads budget grammar.common (toks tokens.now)) }
-{
-    if begins_word_decl(tokens) {
-        let (decl, rest) = word_decl(alloc, tokens, budget)?;
-        return Ok((Item::Decl(decl), rest));
+pub struct CommonItems;
+
+impl Part for CommonItems {
+    type Tree = Item;
+
+    ghost Seen = { items.Item };
+
+    ghost production = { grammar.common };
+
+    ghost view = { view.item };
+
+    ghost first = { common_first };
+
+    #[tactic(auto, using(sv_parse::proofs::ExprParts::mem_both))]
+    fn begins(kind: Kind) -> bool {
+        Life::of(kind).is_some()
+            || kind == Kind::Var
+            || is_type_word(kind)
+            || NamedItems::begins(kind)
+            || matches!(
+                kind,
+                Kind::Clocking | Kind::Default | Kind::Initial | Kind::Semicolon
+            )
     }
-    if begins_named_items(tokens) {
-        return named_items(alloc, tokens, budget);
+
+    #[tactic(auto, using(crate::proofs::ItemLaws::common_decl, crate::proofs::ItemLaws::common_named, crate::proofs::ItemLaws::common_clocking, crate::proofs::ItemLaws::common_initial, crate::proofs::ItemLaws::common_deep, crate::proofs::ItemLaws::common_null))]
+    fn read<'a>(alloc: Global, tokens: &'a [Token], budget: Budget) -> Read<'a, Item> {
+        if begins_word_decl(tokens) {
+            let (decl, rest) = word_decl(alloc, tokens, budget)?;
+            return Ok((Item::Decl(Box::new(alloc, decl)?), rest));
+        }
+        if begins::<NamedItems>(tokens) {
+            return NamedItems::read(alloc, tokens, budget);
+        }
+        if is_next(tokens, Kind::Clocking) || is_next(tokens, Kind::Default) {
+            return clocking(alloc, tokens, budget);
+        }
+        if is_next(tokens, Kind::Initial) {
+            budget.deeper(tokens)?;
+            return initial(alloc, tokens, budget);
+        }
+        let (_, rest) = expect(tokens, Kind::Semicolon)?;
+        Ok((Item::Null, rest))
     }
-    if begins_clocking(tokens) {
-        return clocking(alloc, tokens, budget);
-    }
-    if is_next(tokens, Kind::Initial) {
-        return initial(alloc, tokens, budget);
-    }
-    let (_, rest) = expect(tokens, Kind::Semicolon)?;
-    Ok((Item::Null, rest))
+
+    ghost is_known = { common_known };
 }
 
 // ---- items of programs
 
-/// A declaration that a name begins
-#[tactic(auto, using(crate::proofs::ItemLaws::named_decl_is))]
-fn named_decl<'a>(alloc: Global, tokens: &'a [Token], budget: u32) -> Read<'a, Item>
-    requires { budget ≤ 200 }
-    ensures { Gives (λ x. (view.item x.0, toks x.1.now)) result (reads budget grammar.named_decl (toks tokens.now)) }
-{
-    let (of, rest) = name(alloc, tokens)?;
-    let (decl, rest) = named_decl_rest(alloc, of, rest, budget)?;
-    Ok((Item::Decl(decl), rest))
+/// `pitem`
+pub struct ProgramItems;
+
+impl Part for ProgramItems {
+    type Tree = Item;
+
+    ghost Seen = { items.Item };
+
+    ghost production = { grammar.program_item };
+
+    ghost view = { view.item };
+
+    ghost first = { program_item_first };
+
+    #[tactic(auto, using(sv_parse::proofs::ExprParts::mem_both))]
+    fn begins(kind: Kind) -> bool {
+        CommonItems::begins(kind) || kind == Kind::Name
+    }
+
+    #[tactic(auto, using(crate::proofs::ItemLaws::program_common, crate::proofs::ItemLaws::program_named))]
+    fn read<'a>(alloc: Global, tokens: &'a [Token], budget: Budget) -> Read<'a, Item> {
+        if begins::<CommonItems>(tokens) {
+            return CommonItems::read(alloc, tokens, budget);
+        }
+        let (of, rest) = name(tokens)?;
+        let (decl, rest) = named_decl_rest(alloc, of, rest, budget)?;
+        Ok((Item::Decl(Box::new(alloc, decl)?), rest))
+    }
+
+    ghost is_known = { program_item_known };
 }
 
-/// `pitem`
-#[tactic(auto, using(crate::proofs::ItemLaws::program_common, crate::proofs::ItemLaws::program_named))]
-pub fn program_item<'a>(alloc: Global, tokens: &'a [Token], budget: u32) -> Read<'a, Item>
-    requires some { 0 < budget }
-    requires low { budget ≤ 200 }
-    ensures { Gives (λ x. (view.item x.0, toks x.1.now)) result (reads budget grammar.program_item (toks tokens.now)) }
-{
-    if begins_common(tokens) {
-        return common(alloc, tokens, budget);
-    }
-    named_decl(alloc, tokens, budget)
+impl Repeated for ProgramItems {
+    ghost is_repeated = { program_item_repeated };
 }
 
 // ---- items of modules
 
 /// `("always" | "always_comb" | "always_ff") stmt`
-#[tactic(auto, using(sv_tree::proofs::Good::inner_is), unfolding(sv_tree::specs::UnitGrammar::always))]
-fn always<'a>(alloc: Global, tokens: &'a [Token], budget: u32) -> Read<'a, Item>
-    requires some { 0 < budget }
-    requires low { budget ≤ 200 }
-    ensures { Gives (λ x. (view.item x.0, toks x.1.now)) result (reads budget grammar.always (toks tokens.now)) }
+#[tactic(auto, unfolding(sv_tree::specs::UnitGrammar::always))]
+fn always<'a>(alloc: Global, tokens: &'a [Token], budget: Budget) -> Read<'a, Item>
+    ensures { Reads view.item budget grammar.always tokens.now result }
 {
-    let (word, kind, rest) = procedure(tokens)?;
-    let (body, rest) = statement(alloc, rest, budget - 1)?;
-    Ok((Item::Procedure(word.at, kind, body), rest))
+    let ((first, word), rest) = expect_word::<ProcedureWord>(tokens)?;
+    let (body, rest) = statement(alloc, rest, budget)?;
+    let procedure = Procedure {
+        at: first.at,
+        word,
+        body,
+    };
+    Ok((Item::Procedure(Box::new(alloc, procedure)?), rest))
 }
 
 /// `mitem`
-#[tactic(auto, using(crate::proofs::ItemLaws::module_common, crate::proofs::ItemLaws::module_net, crate::proofs::ItemLaws::module_assign, crate::proofs::ItemLaws::module_always, crate::proofs::ItemLaws::module_named))]
-pub fn module_item<'a>(alloc: Global, tokens: &'a [Token], budget: u32) -> Read<'a, Item>
-    requires some { 0 < budget }
-    requires low { budget ≤ 200 }
-    ensures { Gives (λ x. (view.item x.0, toks x.1.now)) result (reads budget grammar.module_item (toks tokens.now)) }
-{
-    if begins_common(tokens) {
-        return common(alloc, tokens, budget);
+pub struct ModuleItems;
+
+impl Part for ModuleItems {
+    type Tree = Item;
+
+    ghost Seen = { items.Item };
+
+    ghost production = { grammar.module_item };
+
+    ghost view = { view.item };
+
+    ghost first = { module_item_first };
+
+    #[tactic(auto, using(sv_parse::proofs::ExprParts::mem_both))]
+    fn begins(kind: Kind) -> bool {
+        CommonItems::begins(kind)
+            || matches!(kind, Kind::Wire | Kind::Tri | Kind::Assign)
+            || ProcedureWord::of(kind).is_some()
+            || kind == Kind::Name
     }
-    if is_net_word(tokens) {
-        return net(alloc, tokens, budget);
+
+    #[tactic(auto, using(crate::proofs::ItemLaws::module_common, crate::proofs::ItemLaws::module_net, crate::proofs::ItemLaws::module_assign, crate::proofs::ItemLaws::module_always, crate::proofs::ItemLaws::module_deep, crate::proofs::ItemLaws::module_named))]
+    fn read<'a>(alloc: Global, tokens: &'a [Token], budget: Budget) -> Read<'a, Item> {
+        if begins::<CommonItems>(tokens) {
+            return CommonItems::read(alloc, tokens, budget);
+        }
+        if is_next(tokens, Kind::Wire) || is_next(tokens, Kind::Tri) {
+            return net(alloc, tokens, budget);
+        }
+        if is_next(tokens, Kind::Assign) {
+            return assign(alloc, tokens, budget);
+        }
+        if is_next_word::<ProcedureWord>(tokens) {
+            budget.deeper(tokens)?;
+            return always(alloc, tokens, budget);
+        }
+        named_item(alloc, tokens, budget)
     }
-    if is_next(tokens, Kind::Assign) {
-        return assign(alloc, tokens, budget);
-    }
-    if is_procedure(tokens) {
-        return always(alloc, tokens, budget);
-    }
-    named_item(alloc, tokens, budget)
+
+    ghost is_known = { module_item_known };
+}
+
+impl Repeated for ModuleItems {
+    ghost is_repeated = { module_item_repeated };
 }

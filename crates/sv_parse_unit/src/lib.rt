@@ -1,29 +1,31 @@
-//! Reading the tokens of a file: units and their items.
+//! Reading the tokens of a file: descriptions and their items.
 //!
-//! The parser descends with one token of look-ahead, as those of expressions and of statements do, over a budget of depth that only these
-//! spend: units, their items and their lists do not stand in one another.
-//! 1. Each production has a function, whose contract says that it gives what reading the production gives (`Gives`); that this is exact
-//!    is a theorem on the whole grammar (`sv_grammar`);
-//! 2. a choice tests what comes next (`begins`, `words`), and a list is a loop;
-//! 3. `parse` says in full what is answered about a file.
+//! The parser goes through the tokens once, with one token of look-ahead. Only expressions and statements stand in one another and so
+//! spend the budget of depth.
+//! 1. What stands in lists, options and repetitions is a part (`Part`), read by the readers of any part; all else has a function;
+//! 2. a choice looks at the next token, by what begins each part (`begins`);
+//! 3. each contract says that a reader gives what reading its production gives (`Reads`), which is exact by a theorem on the whole
+//!    grammar (`sv_grammar`);
+//! 4. `parse` says in full what is answered about a file.
 #![tactic(auto)]
 
-mod begins;
 mod classes;
 mod clocking;
-mod implied;
+mod connections;
+mod descriptions;
+mod elements;
 mod instances;
 mod items;
 mod lists;
+mod named_items;
 mod nets;
 mod params;
 mod ports;
 mod routines;
 #[cfg(test)]
 mod tests;
+mod typed;
 mod typedefs;
-mod units;
 mod whole;
-mod words;
 
 pub use whole::parse;

@@ -1,16 +1,35 @@
-// Lists of what was read.
-ghost use Rattle.std.specs.Prelude.{◌≡◌, ◌∷◌, [], Ok};
-ghost use Rattle.sv_tree.specs.Codes.{toks};
-ghost use Rattle.sv_parse_expr.specs.Outcome.{Gives};
+// Lists in parentheses.
+ghost use Rattle.sv_tree.specs.Forms.{in_parentheses, list, list_or_none};
+ghost use Rattle.sv_parse.specs.Outcome.{Reads, seen};
 
 use std::alloc::Global;
-use sv_parse_expr::with_first_item;
-use sv_parse_stmt::Read;
-use sv_tree::Token;
+use sv_parse::{Budget, Listed, Read, expect, list, list_or_none};
+use sv_tree::{Kind, Token};
 
-/// A list of one item, with the tokens after it.
-pub fn only_item<'a, T: Drop>(alloc: Global, item: T, rest: &'a [Token]) -> Read<'a, Vec<T>>
-    ensures { Gives (λ x. (x.0.items, toks x.1.now)) result (Ok (item ∷ [], toks rest.now)) }
+/// `"(" list(part) ")"`, and the tokens after it.
+pub fn enclosed_list<'a, P: Listed>(
+    alloc: Global,
+    tokens: &'a [Token],
+    budget: Budget,
+) -> Read<'a, Vec<P::Tree>>
+    ensures { Reads (seen P.view) budget (in_parentheses (list P.production)) tokens.now result }
 {
-    with_first_item(item, Vec::new(alloc), rest)
+    let (_, rest) = expect(tokens, Kind::LeftParenthesis)?;
+    let (parts, rest) = list::<P>(alloc, rest, budget)?;
+    let (_, rest) = expect(rest, Kind::RightParenthesis)?;
+    Ok((parts, rest))
+}
+
+/// `"(" [list(part)] ")"`, and the tokens after it.
+pub fn enclosed_list_or_none<'a, P: Listed>(
+    alloc: Global,
+    tokens: &'a [Token],
+    budget: Budget,
+) -> Read<'a, Vec<P::Tree>>
+    ensures { Reads (seen P.view) budget (in_parentheses (list_or_none P.production)) tokens.now result }
+{
+    let (_, rest) = expect(tokens, Kind::LeftParenthesis)?;
+    let (parts, rest) = list_or_none::<P>(alloc, rest, budget)?;
+    let (_, rest) = expect(rest, Kind::RightParenthesis)?;
+    Ok((parts, rest))
 }

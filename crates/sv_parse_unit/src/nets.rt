@@ -1,128 +1,144 @@
-// Nets and continuous assignments (IEEE 1800-2017, A.2.4 and A.6.1).
-ghost use Rattle.std.specs.Prelude.{◌≡◌, ◌≤◌, map};
-ghost use Rattle.sv_tree.specs.Codes.{toks};
-ghost use Rattle.sv_tree.specs.Forms.{comma, commas};
+// Nets and continuous assignments (IEEE 1800-2017, A.2.1.3, A.2.4 and A.6.1).
+ghost use Rattle.std.specs.Prelude.{◌≡◌, [], ◌∷◌, Ok};
+ghost use Rattle.sv_grammar.specs.Reading.{one_of};
+ghost use Rattle.sv_tree.specs.declared.kind.Kind.TheVariants as k;
+ghost use Rattle.sv_tree.specs.Codes.{code, tok, toks};
+ghost use Rattle.sv_tree.specs.Forms.{any_of, codes_of, optional};
+ghost use Rattle.sv_tree.specs.Grammar.{reads};
+ghost use Rattle.sv_tree.specs.Units as units;
 ghost use Rattle.sv_tree.specs.UnitGrammar as grammar;
 ghost use Rattle.sv_tree.specs.UnitView as view;
-ghost use Rattle.sv_tree.specs.Grammar.{reads};
-ghost use Rattle.sv_parse_expr.specs.Outcome.{Gives};
+ghost use Rattle.sv_parse.specs.Outcome.{Gives, Reads};
+ghost use Rattle.sv_parse.specs.Parts.{if_next};
+ghost use Rattle.sv_parse.proofs.UnitParts.{net_item_known, net_item_listed, assign_item_known, assign_item_listed};
+ghost use Rattle.sv_parse_unit.specs.First.{target_first};
 
-use crate::words::{net_word, skip};
 use std::alloc::Global;
-use sv_parse_expr::{FoundTarget, expect, is_next, lval, name, with_first_item};
-use sv_parse_stmt::{Read, maybe_range, maybe_value, sign, value};
-use sv_tree::{AssignItem, Item, Kind, NetItem, Token};
+use sv_parse::{Budget, Listed, Part, Read, ReadError, expect, list, maybe, name, skip, word_or};
+use sv_parse_expr::{Values, lval};
+use sv_parse_type::Ranges;
+use sv_tree::{AssignItem, Item, Kind, NetDecl, NetItem, Sign, Token};
+
+// ---- words
+
+/// `"wire" | "tri"`, and the tokens after it.
+fn net_word<'a>(tokens: &'a [Token]) -> Read<'a, &'a Token>
+    ensures { Gives (λ x. (tok x.0.now, toks x.1.now)) result (one_of (codes_of grammar.net_words) (toks tokens.now)) }
+{
+    match tokens {
+        [first, rest @ ..] if matches!(first.kind, Kind::Wire | Kind::Tri) => Ok((first, rest)),
+        _ => Err(ReadError::Unexpected(tokens)),
+    }
+}
+
+/// `["wire" | "tri"]`: whether it is written, and the tokens after it.
+pub fn maybe_net(tokens: &[Token]) -> (bool, &[Token])
+    ensures { reads 0 (optional (any_of grammar.net_words)) (toks tokens.now) ≡ Ok (if_next result.0 (toks tokens.now), toks result.1.now) }
+{
+    match tokens {
+        [first, rest @ ..] if matches!(first.kind, Kind::Wire | Kind::Tri) => (true, rest),
+        _ => (false, tokens),
+    }
+}
 
 // ---- nets
 
 /// `id ["=" expr]`
-#[tactic(auto, unfolding(sv_tree::specs::UnitGrammar::net_item))]
-fn net_item<'a>(alloc: Global, tokens: &'a [Token], budget: u32) -> Read<'a, NetItem>
-    requires { budget ≤ 200 }
-    ensures { Gives (λ x. (view.net_item x.0, toks x.1.now)) result (reads budget grammar.net_item (toks tokens.now)) }
-{
-    let (name, rest) = name(alloc, tokens)?;
-    let (value, rest) = maybe_value(alloc, rest, budget)?;
-    Ok((NetItem { name, value }, rest))
-}
+pub struct NetItems;
 
-/// `"," id ["=" expr]`
-fn comma_net_item<'a>(alloc: Global, tokens: &'a [Token], budget: u32) -> Read<'a, NetItem>
-    requires { budget ≤ 200 }
-    ensures { Gives (λ x. (view.net_item x.0, toks x.1.now)) result (reads budget (comma grammar.net_item) (toks tokens.now)) }
-{
-    let (_, rest) = expect(tokens, Kind::Comma)?;
-    let (item, rest) = net_item(alloc, rest, budget)?;
-    Ok((item, rest))
-}
+impl Part for NetItems {
+    type Tree = NetItem;
 
-/// `{"," id ["=" expr]}`
-#[tactic(auto, using(crate::proofs::NetLaws::net_items_are, crate::proofs::NetLaws::net_items_stop))]
-fn more_net_items<'a>(alloc: Global, tokens: &'a [Token], budget: u32) -> Read<'a, Vec<NetItem>>
-    requires { budget ≤ 200 }
-    ensures { Gives (λ x. (map view.net_item x.0.items, toks x.1.now)) result (reads budget (commas grammar.net_item) (toks tokens.now)) }
-{
-    let mut list = Vec::new(alloc);
-    let mut rest = tokens;
-    'commas: while is_next(rest, Kind::Comma) {
-        let (item, after) = comma_net_item(alloc, rest, budget)?;
-        list.push(item)?;
-        rest = after;
+    ghost Seen = { units.NetItem };
+
+    ghost production = { grammar.net_item };
+
+    ghost view = { view.net_item };
+
+    ghost first = { code k.Name ∷ [] };
+
+    fn begins(kind: Kind) -> bool {
+        kind == Kind::Name
     }
-    Ok((list, rest))
+
+    #[tactic(auto, unfolding(sv_tree::specs::UnitGrammar::net_item))]
+    fn read<'a>(alloc: Global, tokens: &'a [Token], budget: Budget) -> Read<'a, NetItem> {
+        let (name, rest) = name(tokens)?;
+        let (value, rest) = maybe::<Values>(alloc, rest, budget)?;
+        Ok((NetItem { name, value }, rest))
+    }
+
+    ghost is_known = { net_item_known };
+}
+
+impl Listed for NetItems {
+    ghost is_listed = { net_item_listed };
 }
 
 /// `net`
 #[tactic(auto, unfolding(sv_tree::specs::UnitGrammar::net, sv_tree::specs::UnitGrammar::net_word))]
-pub fn net<'a>(alloc: Global, tokens: &'a [Token], budget: u32) -> Read<'a, Item>
-    requires { budget ≤ 200 }
-    ensures { Gives (λ x. (view.item x.0, toks x.1.now)) result (reads budget grammar.net (toks tokens.now)) }
+pub fn net<'a>(alloc: Global, tokens: &'a [Token], budget: Budget) -> Read<'a, Item>
+    ensures { Reads view.item budget grammar.net tokens.now result }
 {
     let (word, rest) = net_word(tokens)?;
-    let rest = skip(rest, Kind::Logic);
-    let (sign, rest) = sign(rest);
-    let (range, rest) = maybe_range(alloc, rest, budget)?;
-    let (first, rest) = net_item(alloc, rest, budget)?;
-    let (others, rest) = more_net_items(alloc, rest, budget)?;
-    let (nets, rest) = with_first_item(first, others, rest)?;
+    let (_, rest) = skip(rest, Kind::Logic);
+    let (sign, rest) = word_or::<Sign>(rest, Sign::Unwritten);
+    let (range, rest) = maybe::<Ranges>(alloc, rest, budget)?;
+    let (names, rest) = list::<NetItems>(alloc, rest, budget)?;
     let (_, rest) = expect(rest, Kind::Semicolon)?;
-    Ok((Item::Net(word.at, sign, range, nets), rest))
+    let net = NetDecl {
+        at: word.at,
+        sign,
+        range,
+        names,
+    };
+    Ok((Item::Net(Box::new(alloc, net)?), rest))
 }
 
 // ---- continuous assignments
 
 /// `lval "=" expr`
-#[tactic(auto, unfolding(sv_tree::specs::UnitGrammar::assign_item))]
-fn assign_item<'a>(alloc: Global, tokens: &'a [Token], budget: u32) -> Read<'a, AssignItem>
-    requires { budget ≤ 200 }
-    ensures { Gives (λ x. (view.assign_item x.0, toks x.1.now)) result (reads budget grammar.assign_item (toks tokens.now)) }
-{
-    let FoundTarget { target, rest } = lval(alloc, tokens, budget)?;
-    let (_, rest) = expect(rest, Kind::Equals)?;
-    let (value, rest) = value(alloc, rest, budget)?;
-    Ok((AssignItem { target, value }, rest))
-}
+pub struct AssignItems;
 
-/// `"," lval "=" expr`
-fn comma_assign_item<'a>(alloc: Global, tokens: &'a [Token], budget: u32) -> Read<'a, AssignItem>
-    requires { budget ≤ 200 }
-    ensures { Gives (λ x. (view.assign_item x.0, toks x.1.now)) result (reads budget (comma grammar.assign_item) (toks tokens.now)) }
-{
-    let (_, rest) = expect(tokens, Kind::Comma)?;
-    let (item, rest) = assign_item(alloc, rest, budget)?;
-    Ok((item, rest))
-}
+impl Part for AssignItems {
+    type Tree = AssignItem;
 
-/// `{"," lval "=" expr}`
-#[tactic(auto, using(crate::proofs::NetLaws::assign_items_are, crate::proofs::NetLaws::assign_items_stop))]
-fn more_assign_items<'a>(
-    alloc: Global,
-    tokens: &'a [Token],
-    budget: u32,
-) -> Read<'a, Vec<AssignItem>>
-    requires { budget ≤ 200 }
-    ensures { Gives (λ x. (map view.assign_item x.0.items, toks x.1.now)) result (reads budget (commas grammar.assign_item) (toks tokens.now)) }
-{
-    let mut list = Vec::new(alloc);
-    let mut rest = tokens;
-    'commas: while is_next(rest, Kind::Comma) {
-        let (item, after) = comma_assign_item(alloc, rest, budget)?;
-        list.push(item)?;
-        rest = after;
+    ghost Seen = { units.AssignItem };
+
+    ghost production = { grammar.assign_item };
+
+    ghost view = { view.assign_item };
+
+    ghost first = { target_first };
+
+    fn begins(kind: Kind) -> bool {
+        matches!(
+            kind,
+            Kind::Name | Kind::This | Kind::Super | Kind::LeftBrace
+        )
     }
-    Ok((list, rest))
+
+    #[tactic(auto, unfolding(sv_tree::specs::UnitGrammar::assign_item))]
+    fn read<'a>(alloc: Global, tokens: &'a [Token], budget: Budget) -> Read<'a, AssignItem> {
+        let (target, rest) = lval(alloc, tokens, budget)?;
+        let (value, rest) = Values::read(alloc, rest, budget)?;
+        Ok((AssignItem { target, value }, rest))
+    }
+
+    ghost is_known = { assign_item_known };
+}
+
+impl Listed for AssignItems {
+    ghost is_listed = { assign_item_listed };
 }
 
 /// `"assign" list(lval "=" expr) ";"`
 #[tactic(auto, unfolding(sv_tree::specs::UnitGrammar::assign))]
-pub fn assign<'a>(alloc: Global, tokens: &'a [Token], budget: u32) -> Read<'a, Item>
-    requires { budget ≤ 200 }
-    ensures { Gives (λ x. (view.item x.0, toks x.1.now)) result (reads budget grammar.assign (toks tokens.now)) }
+pub fn assign<'a>(alloc: Global, tokens: &'a [Token], budget: Budget) -> Read<'a, Item>
+    ensures { Reads view.item budget grammar.assign tokens.now result }
 {
     let (_, rest) = expect(tokens, Kind::Assign)?;
-    let (first, rest) = assign_item(alloc, rest, budget)?;
-    let (others, rest) = more_assign_items(alloc, rest, budget)?;
-    let (list, rest) = with_first_item(first, others, rest)?;
+    let (items, rest) = list::<AssignItems>(alloc, rest, budget)?;
     let (_, rest) = expect(rest, Kind::Semicolon)?;
-    Ok((Item::Assign(list), rest))
+    Ok((Item::Assign(items), rest))
 }

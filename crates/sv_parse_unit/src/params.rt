@@ -1,139 +1,121 @@
 // Parameters (IEEE 1800-2017, A.1.3 and A.2.1.1).
-ghost use Rattle.std.specs.Prelude.{◌≡◌, ◌≤◌, map};
-ghost use Rattle.sv_tree.specs.Codes.{toks};
-ghost use Rattle.sv_tree.specs.Forms.{comma, commas};
+ghost use Rattle.std.specs.Prelude.{[], ◌∷◌, option_map};
+ghost use Rattle.sv_tree.specs.declared.kind.Kind.TheVariants as k;
+ghost use Rattle.sv_tree.specs.Codes.{code};
+ghost use Rattle.sv_tree.specs.Forms.{optional};
+ghost use Rattle.sv_tree.specs.Units as units;
 ghost use Rattle.sv_tree.specs.UnitGrammar as grammar;
 ghost use Rattle.sv_tree.specs.UnitView as view;
-ghost use Rattle.sv_tree.specs.Grammar.{reads};
-ghost use Rattle.sv_parse_expr.specs.Outcome.{Gives};
+ghost use Rattle.sv_parse.specs.Outcome.{Reads, seen};
+ghost use Rattle.sv_parse.proofs.UnitParts.{param_item_known, param_item_listed, element_param_known, element_param_listed};
+ghost use Rattle.sv_parse_unit.specs.First.{element_param_first};
 
-use crate::implied::{TypedName, typed_name};
-use crate::lists::only_item;
-use crate::words::{param_kind, skip};
+use crate::lists::enclosed_list;
+use crate::typed::{ImpliedTypes, TypedName, typed_name};
 use std::alloc::Global;
-use sv_parse_expr::{expect, is_next, name, with_first_item};
-use sv_parse_stmt::{Read, value};
-use sv_tree::{Kind, Param, ParamItem, Token};
+use sv_parse::{Budget, Listed, Part, Read, expect, expect_word, is_next, list_after, name, skip};
+use sv_parse_expr::Values;
+use sv_tree::{Kind, Param, ParamItem, ParamWord, Token};
 
 // ---- parameters of one type
 
 /// `id "=" expr`
-#[tactic(auto, unfolding(sv_tree::specs::UnitGrammar::param_item))]
-fn param_item<'a>(alloc: Global, tokens: &'a [Token], budget: u32) -> Read<'a, ParamItem>
-    requires { budget ≤ 200 }
-    ensures { Gives (λ x. (view.param_item x.0, toks x.1.now)) result (reads budget grammar.param_item (toks tokens.now)) }
-{
-    let (name, rest) = name(alloc, tokens)?;
-    let (_, rest) = expect(rest, Kind::Equals)?;
-    let (value, rest) = value(alloc, rest, budget)?;
-    Ok((ParamItem { name, value }, rest))
-}
+pub struct ParamItems;
 
-/// `"," id "=" expr`
-fn comma_param_item<'a>(alloc: Global, tokens: &'a [Token], budget: u32) -> Read<'a, ParamItem>
-    requires { budget ≤ 200 }
-    ensures { Gives (λ x. (view.param_item x.0, toks x.1.now)) result (reads budget (comma grammar.param_item) (toks tokens.now)) }
-{
-    let (_, rest) = expect(tokens, Kind::Comma)?;
-    let (item, rest) = param_item(alloc, rest, budget)?;
-    Ok((item, rest))
-}
+impl Part for ParamItems {
+    type Tree = ParamItem;
 
-/// `{"," id "=" expr}`
-#[tactic(auto, using(crate::proofs::ParamLaws::param_items_are, crate::proofs::ParamLaws::param_items_stop))]
-fn more_param_items<'a>(alloc: Global, tokens: &'a [Token], budget: u32) -> Read<'a, Vec<ParamItem>>
-    requires { budget ≤ 200 }
-    ensures { Gives (λ x. (map view.param_item x.0.items, toks x.1.now)) result (reads budget (commas grammar.param_item) (toks tokens.now)) }
-{
-    let mut list = Vec::new(alloc);
-    let mut rest = tokens;
-    'commas: while is_next(rest, Kind::Comma) {
-        let (item, after) = comma_param_item(alloc, rest, budget)?;
-        list.push(item)?;
-        rest = after;
+    ghost Seen = { units.ParamItem };
+
+    ghost production = { grammar.param_item };
+
+    ghost view = { view.param_item };
+
+    ghost first = { code k.Name ∷ [] };
+
+    fn begins(kind: Kind) -> bool {
+        kind == Kind::Name
     }
-    Ok((list, rest))
+
+    #[tactic(auto, unfolding(sv_tree::specs::UnitGrammar::param_item))]
+    fn read<'a>(alloc: Global, tokens: &'a [Token], budget: Budget) -> Read<'a, ParamItem> {
+        let (name, rest) = name(tokens)?;
+        let (value, rest) = Values::read(alloc, rest, budget)?;
+        Ok((ParamItem { name, value }, rest))
+    }
+
+    ghost is_known = { param_item_known };
+}
+
+impl Listed for ParamItems {
+    ghost is_listed = { param_item_listed };
 }
 
 /// `param`
-#[tactic(auto, unfolding(sv_tree::specs::UnitGrammar::param))]
-pub fn param<'a>(alloc: Global, tokens: &'a [Token], budget: u32) -> Read<'a, Param>
-    requires { budget ≤ 200 }
-    ensures { Gives (λ x. (view.param x.0, toks x.1.now)) result (reads budget grammar.param (toks tokens.now)) }
+#[tactic(auto, using(crate::proofs::ElementLaws::param_is))]
+pub fn param<'a>(alloc: Global, tokens: &'a [Token], budget: Budget) -> Read<'a, Param>
+    ensures { Reads view.param budget grammar.param tokens.now result }
 {
-    let (_, is_local, rest) = param_kind(tokens)?;
-    let (TypedName { ty, name }, rest) = typed_name(alloc, rest, budget)?;
-    let (_, rest) = expect(rest, Kind::Equals)?;
-    let (value, rest) = value(alloc, rest, budget)?;
-    let (others, rest) = more_param_items(alloc, rest, budget)?;
-    let (names, rest) = with_first_item(ParamItem { name, value }, others, rest)?;
-    let param = Param {
-        is_local,
-        ty: Box::into_inner(ty),
-        names,
-    };
-    Ok((param, rest))
+    let ((_, word), rest) = expect_word::<ParamWord>(tokens)?;
+    let (TypedName { of, name }, rest) = typed_name(alloc, rest, budget)?;
+    let (value, rest) = Values::read(alloc, rest, budget)?;
+    let first = ParamItem { name, value };
+    let (names, rest) = list_after::<ParamItems>(alloc, first, rest, budget)?;
+    Ok((Param { word, of, names }, rest))
 }
 
-// ---- parameters of a unit
+// ---- parameters of a design element
 
 /// `["parameter"] [itype] id "=" expr`
-#[tactic(auto, unfolding(sv_tree::specs::UnitGrammar::unit_param))]
-fn unit_param<'a>(alloc: Global, tokens: &'a [Token], budget: u32) -> Read<'a, Param>
-    requires { budget ≤ 200 }
-    ensures { Gives (λ x. (view.param x.0, toks x.1.now)) result (reads budget grammar.unit_param (toks tokens.now)) }
-{
-    let rest = skip(tokens, Kind::Parameter);
-    let (TypedName { ty, name }, rest) = typed_name(alloc, rest, budget)?;
-    let (_, rest) = expect(rest, Kind::Equals)?;
-    let (value, rest) = value(alloc, rest, budget)?;
-    let (names, rest) = only_item(alloc, ParamItem { name, value }, rest)?;
-    let param = Param {
-        is_local: false,
-        ty: Box::into_inner(ty),
-        names,
-    };
-    Ok((param, rest))
-}
+pub struct ElementParams;
 
-/// `"," ["parameter"] [itype] id "=" expr`
-fn comma_unit_param<'a>(alloc: Global, tokens: &'a [Token], budget: u32) -> Read<'a, Param>
-    requires { budget ≤ 200 }
-    ensures { Gives (λ x. (view.param x.0, toks x.1.now)) result (reads budget (comma grammar.unit_param) (toks tokens.now)) }
-{
-    let (_, rest) = expect(tokens, Kind::Comma)?;
-    let (item, rest) = unit_param(alloc, rest, budget)?;
-    Ok((item, rest))
-}
+impl Part for ElementParams {
+    type Tree = Param;
 
-/// `{"," ["parameter"] [itype] id "=" expr}`
-#[tactic(auto, using(crate::proofs::ParamLaws::unit_params_are, crate::proofs::ParamLaws::unit_params_stop))]
-fn more_unit_params<'a>(alloc: Global, tokens: &'a [Token], budget: u32) -> Read<'a, Vec<Param>>
-    requires { budget ≤ 200 }
-    ensures { Gives (λ x. (map view.param x.0.items, toks x.1.now)) result (reads budget (commas grammar.unit_param) (toks tokens.now)) }
-{
-    let mut list = Vec::new(alloc);
-    let mut rest = tokens;
-    'commas: while is_next(rest, Kind::Comma) {
-        let (item, after) = comma_unit_param(alloc, rest, budget)?;
-        list.push(item)?;
-        rest = after;
+    ghost Seen = { units.Param };
+
+    ghost production = { grammar.element_param };
+
+    ghost view = { view.param };
+
+    ghost first = { element_param_first };
+
+    #[tactic(auto, using(sv_parse::proofs::ExprParts::mem_both))]
+    fn begins(kind: Kind) -> bool {
+        kind == Kind::Parameter || ImpliedTypes::begins(kind) || kind == Kind::Name
     }
-    Ok((list, rest))
+
+    #[tactic(auto, unfolding(sv_tree::specs::UnitGrammar::element_param))]
+    fn read<'a>(alloc: Global, tokens: &'a [Token], budget: Budget) -> Read<'a, Param> {
+        let (_, rest) = skip(tokens, Kind::Parameter);
+        let (TypedName { of, name }, rest) = typed_name(alloc, rest, budget)?;
+        let (value, rest) = Values::read(alloc, rest, budget)?;
+        let mut names = Vec::new(alloc);
+        names.push(ParamItem { name, value })?;
+        let word = ParamWord::Parameter;
+        Ok((Param { word, of, names }, rest))
+    }
+
+    ghost is_known = { element_param_known };
 }
 
-/// `pports`
-#[tactic(auto, unfolding(sv_tree::specs::UnitGrammar::unit_params))]
-pub fn unit_params<'a>(alloc: Global, tokens: &'a [Token], budget: u32) -> Read<'a, Vec<Param>>
-    requires { budget ≤ 200 }
-    ensures { Gives (λ x. (map view.param x.0.items, toks x.1.now)) result (reads budget grammar.unit_params (toks tokens.now)) }
+impl Listed for ElementParams {
+    ghost is_listed = { element_param_listed };
+}
+
+/// `[pports]`
+#[tactic(auto, using(crate::proofs::ElementLaws::params_some, crate::proofs::ElementLaws::params_none), unfolding(sv_tree::specs::UnitGrammar::element_params))]
+pub fn maybe_params<'a>(
+    alloc: Global,
+    tokens: &'a [Token],
+    budget: Budget,
+) -> Read<'a, Option<Vec<Param>>>
+    ensures { Reads (option_map (seen view.param)) budget (optional grammar.element_params) tokens.now result }
 {
+    if !is_next(tokens, Kind::Hash) {
+        return Ok((None, tokens));
+    }
     let (_, rest) = expect(tokens, Kind::Hash)?;
-    let (_, rest) = expect(rest, Kind::LeftParenthesis)?;
-    let (first, rest) = unit_param(alloc, rest, budget)?;
-    let first = Box::new(alloc, first)?;
-    let (others, rest) = more_unit_params(alloc, rest, budget)?;
-    let (list, rest) = with_first_item(Box::into_inner(first), others, rest)?;
-    let (_, rest) = expect(rest, Kind::RightParenthesis)?;
-    Ok((list, rest))
+    let (params, rest) = enclosed_list::<ElementParams>(alloc, rest, budget)?;
+    Ok((Some(params), rest))
 }

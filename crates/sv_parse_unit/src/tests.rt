@@ -6,21 +6,21 @@ ghost use Rattle.sv_tree.specs.Codes.{toks};
 use crate::parse;
 use std::alloc::{AllocError, Global};
 use std::test::Fail;
-use sv_parse_expr::{SyntaxFault, is_next};
-use sv_tree::{Item, Kind, SIGNS, Token, Unit, WORDS};
-use sv_value::{Place, Text};
+use sv_parse::{SyntaxFault, is_next};
+use sv_tree::{Description, Item, Kind, SIGNS, Token, WORDS};
+use sv_value::{Excerpt, NoMemory, Place};
 
 /// A token in line 1.
-fn token(alloc: Global, kind: Kind, col: u32) -> Token {
-    Token {
+fn token(alloc: Global, kind: Kind, col: u32) -> Result<Token, NoMemory> {
+    Ok(Token {
         kind,
         at: Place {
             file: 0,
             line: 1,
             col,
         },
-        text: Text::new(alloc),
-    }
+        text: Excerpt::new(alloc, b"")?,
+    })
 }
 
 /// The kind of a word: one of the tables, a number, a system name or a name.
@@ -49,11 +49,11 @@ fn tokens(alloc: Global, text: &str) -> Result<Vec<Token>, Fail> {
     let mut col: u32 = 1;
     for word in text.split(' ') {
         if !word.is_empty() {
-            list.push(token(alloc, kind_of(word), col))?;
+            list.push(token(alloc, kind_of(word), col)?)?;
             col = col.saturating_add(1);
         }
     }
-    list.push(token(alloc, Kind::EndOfText, col))?;
+    list.push(token(alloc, Kind::EndOfText, col)?)?;
     Ok(list)
 }
 
@@ -91,25 +91,31 @@ fn form(item: &Item) -> &'static str {
     }
 }
 
-/// What units are, and the items in them.
-fn forms(alloc: Global, units: &[Unit]) -> Result<String, AllocError> {
+/// What descriptions are, and the items in them.
+fn forms(alloc: Global, descriptions: &[Description]) -> Result<String, AllocError> {
     let mut text = String::new(alloc);
-    for unit in units {
-        match unit {
-            Unit::Module(unit) => {
-                text.push_str(if unit.is_program {
-                    "program "
-                } else {
-                    "module "
-                })?;
-                for item in &unit.items {
-                    text.push_str(form(item))?;
-                }
+    for description in descriptions {
+        match description {
+            Description::Module(module) => {
+                text.push_str("module ")?;
+                push_forms(&mut text, &module.items)?;
             }
-            Unit::Item(item) => text.push_str(form(item))?,
+            Description::Program(program) => {
+                text.push_str("program ")?;
+                push_forms(&mut text, &program.items)?;
+            }
+            Description::Item(item) => text.push_str(form(item))?,
         }
     }
     Ok(text)
+}
+
+/// Tells what items are.
+fn push_forms(text: &mut String, items: &[Item]) -> Result<(), AllocError> {
+    for item in items {
+        text.push_str(form(item))?;
+    }
+    Ok(())
 }
 
 /// What a text is read as, or the fault and its column.
@@ -120,7 +126,7 @@ fn told(rt: &HostRuntime, text: &str) -> Result<String, Fail> {
         return Ok(String::from_str(alloc, "not closed")?);
     }
     match parse(alloc, &list) {
-        Ok(units) => Ok(forms(alloc, &units)?),
+        Ok(descriptions) => Ok(forms(alloc, &descriptions)?),
         Err(SyntaxFault::Memory) => Ok(String::from_str(alloc, "out of memory")?),
         Err(SyntaxFault::Bad { at, kind }) => Ok(format!(in alloc; "{kind} at {}", at.col)?),
     }
