@@ -47,7 +47,7 @@ records_more k m p b0 b1 b2 at later put more =
     let rs = more.0 in
     let log : log_between (config_of k) (config_of m) ≡ log_of true steps =
     ap (λ u. drop (length (log_of true before)) (log_of true u)) (sym grown.1) ∙ ap (drop (length (log_of true before))) (log-append true before steps)
-        ∙ drop_at (log_of true before) (log_of true steps) (length (log_of true before)) refl in (
+    ∙ drop_at (log_of true before) (log_of true steps) (length (log_of true before)) refl in (
       steps ++ rs,
       (more.1.0, ap (λ u. u ++ more.1.0) (sym (append_assoc before steps rs) ∙ ap (λ u. u ++ rs) grown.1) ∙ more.1.1),
       more.2 ∙ ap (λ u. appended u (log_of true rs)) (put ∙ ap (appended b0) log) ∙ appended-appended b0 (log_of true steps) (log_of true rs)
