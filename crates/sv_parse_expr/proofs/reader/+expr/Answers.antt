@@ -182,6 +182,13 @@ choose-returns-clause-reads t c =
     let low : depth (expr c.args.condition.tree) < c.args.budget = omega (arith, c.requires.0, c.left.ensures.value) in
     choices_on c.args.budget c.in_ok-inner.inner (expr c.args.condition.tree) (toks c.args.tokens.now) c.in_ok-inner.ensures.0 low (search rules) ∙ rw (c.in_ok-rest.ensures, c.in_ok-yes.ensures.reads, c.in_ok-rest-2.ensures, c.in_ok-no.ensures.reads, c.in_ok-chosen.ensures.tree) refl
 
+pub choose-returns-clause-depth : goal.choose-returns-clause-depth
+choose-returns-clause-depth t c =
+    let low : c.args.condition.depth < c.args.budget = omega (arith, c.left.ensures.value) in
+    let low_yes : c.in_ok-yes.yes.depth < c.args.budget = omega (arith, c.in_ok-yes.ensures.depth.1, c.in_ok-inner.ensures.0) in
+    let low_no : c.in_ok-no.no.depth < c.args.budget = omega (arith, c.in_ok-no.ensures.depth.1, c.in_ok-inner.ensures.0) in
+    (c.in_ok-chosen.ensures.depth, c.in_ok-chosen.ensures.grows c.args.budget low low_yes low_no)
+
 -- ---- operands
 
 pub prim-returns-in_err-tree-in-Bracket-clause-reads : goal.prim-returns-in_err-tree-in-Bracket-clause-reads
