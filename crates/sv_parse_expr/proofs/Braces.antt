@@ -1,5 +1,5 @@
 -- What stands in braces: a concatenation or a replication.
-use Rattle.std.proofs.Common.{◌≡◌, ℕ, suc, ◌+◌, Bool, true, false, cond, List, [], ◌∷◌, Ok, Err, refl, ap, ◌∙◌, arith}
+use Rattle.std.proofs.Common.{◌≡◌, ℕ, ◌+◌, true, false, List, [], ◌∷◌, Ok, Err, refl, ◌∙◌}
 use Rattle.sv_grammar.specs.Tokens.{Tok, next, mem}
 use Rattle.sv_grammar.specs.Language.{TooDeep, Out}
 use Rattle.sv_grammar.specs.Reading.{◌>>=◌, one_of}
@@ -8,7 +8,7 @@ use Rattle.sv_grammar.specs.Code.Code.{Inner, Map, Alt, Rep}
 use Rattle.sv_tree.specs.declared.kind.Kind.TheVariants as k
 use Rattle.sv_tree.specs.Codes.{code}
 use Rattle.sv_tree.specs.Expr as tree
-use Rattle.sv_tree.specs.Forms.{C, Expression, Repeated, Bracketed, ◌◂◌, comma, commas, exprs, list}
+use Rattle.sv_tree.specs.Forms.{C, Expression, Repeated, Bracketed, comma, commas, exprs, list}
 use Rattle.sv_tree.specs.Grammar.{reads}
 use Rattle.sv_tree.specs.ExprGrammar.{braces, comma_expr, expr, inner_exprs, repeated}
 use Rattle.sv_parse.specs.Outcome.{Fails}

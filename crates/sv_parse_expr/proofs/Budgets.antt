@@ -1,5 +1,5 @@
 -- What fits, and productions that are one deeper.
-use Rattle.std.proofs.Common.{◌≡◌, ℕ, suc, ◌+◌, ◌-◌, ◌<◌, ◌≤◌, true, false, List, refl, arith, add-one}
+use Rattle.std.proofs.Common.{◌≡◌, ℕ, suc, ◌+◌, ◌<◌, ◌≤◌, true, false, List, refl, arith, add-one}
 use Rattle.sv_grammar.specs.Tokens.{Tok}
 use Rattle.sv_grammar.specs.Code.{readers, reach}
 use Rattle.sv_grammar.proofs.Budgets.{le-reach, reach-le}

@@ -1,5 +1,5 @@
 -- What is known of the productions of expressions.
-use Rattle.std.proofs.Common.{◌≡◌, ℕ, Bool, true, false, cond, ◌==◌, eqb, List, [], ◌∷◌, map, Ok, Err, refl, sym, ap, ◌∙◌, arith}
+use Rattle.std.proofs.Common.{◌≡◌, ℕ, Bool, true, false, cond, eqb, List, [], ◌∷◌, map, Ok, Err, refl, sym, ap, ◌∙◌, arith}
 use Rattle.std.proofs.lemmas.Bool.{eqb-true}
 use Rattle.sv_grammar.specs.Tokens.{Tok, next, mem}
 use Rattle.sv_grammar.specs.Language.{Unexpected, Out}

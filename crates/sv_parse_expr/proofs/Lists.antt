@@ -1,10 +1,10 @@
 -- Lists of trees, and lists of what is one deeper.
-use Rattle.std.proofs.Common.{◌≡◌, ℕ, zero, suc, ◌+◌, ◌<◌, ◌≤◌, max, Bool, true, false, cond, List, [], ◌∷◌, ◌++◌, map, length, Ok, Err, refl, sym, ap, ◌∙◌, ⊎_elim, arith}
+use Rattle.std.proofs.Common.{◌≡◌, ℕ, zero, suc, ◌+◌, max, Bool, true, false, cond, List, [], ◌∷◌, ◌++◌, map, length, Ok, Err, refl, sym, ap, ◌∙◌, ⊎_elim, arith}
 use Rattle.std.proofs.lemmas.Bool.{cases_lt}
 use Rattle.sv_grammar.specs.Tokens.{Tok, next, mem}
 use Rattle.sv_grammar.specs.Language.{Out}
 use Rattle.sv_grammar.specs.Reading.{◌>>=◌, one_of, run_upto}
-use Rattle.sv_grammar.specs.Code.{larger, least, reach}
+use Rattle.sv_grammar.specs.Code.{larger, reach}
 use Rattle.sv_grammar.specs.Code.Code.{Inner}
 use Rattle.sv_grammar.proofs.Budgets.{larger_left, larger_right}
 use Rattle.sv_tree.specs.declared.kind.Kind.TheVariants as k
@@ -15,7 +15,7 @@ use Rattle.sv_tree.specs.Codes.{code}
 use Rattle.sv_tree.specs.Depth.{depth, exprs_depth, suffixes_depth}
 use Rattle.sv_tree.specs.Expr as tree
 use Rattle.sv_tree.specs.Forms.{Production, Value, Expression, Target, comma, commas, exprs, list, lvals, stacked}
-use Rattle.sv_tree.specs.Grammar.{table, heads, need, reads}
+use Rattle.sv_tree.specs.Grammar.{table, need, reads}
 use Rattle.sv_tree.specs.ExprGrammar.{comma_expr, inner_exprs, expr as expr_code, lval as lval_code}
 use Rattle.sv_tree.specs.StmtView.{lval, lval_list}
 use Rattle.sv_tree.specs.View.{expr, expr_list, suffix, suffix_list, exprs as row_exprs}

@@ -1,7 +1,7 @@
 -- What an operand is once the rest of it is read.
-use Rattle.std.proofs.Common.{◌≡◌, ℕ, ◌+◌, List, [], ◌∷◌, Ok, Err, refl, sym, ap, subst, ◌∙◌}
+use Rattle.std.proofs.Common.{◌≡◌, ℕ, ◌+◌, List, [], ◌∷◌, Ok, Err, refl, subst}
 use Rattle.sv_grammar.specs.Tokens.{Tok}
-use Rattle.sv_grammar.specs.Language.{Miss, TooDeep, Unexpected, Out}
+use Rattle.sv_grammar.specs.Language.{TooDeep, Unexpected, Out}
 use Rattle.sv_grammar.specs.Reading.{◌>>=◌, one_of}
 use Rattle.sv_tree.specs.declared.kind.Kind.TheVariants as k
 use Rattle.sv_grammar.specs.Code.Code.{Map}

@@ -1,5 +1,5 @@
 -- What is read of parts in a row.
-use Rattle.std.proofs.Common.{List, Ok, Err, refl}
+use Rattle.std.proofs.Common.{List, Ok, refl}
 use Rattle.sv_grammar.specs.Tokens.{Tok}
 use Rattle.sv_grammar.specs.Language.{Out}
 use Rattle.sv_grammar.specs.Reading.{◌>>=◌}
