@@ -105,7 +105,7 @@ def call(folder, name, runs):
     """Processor seconds, peak MiB and the closing line of `svsim run NAME`."""
     best, peak, line = float('inf'), 0, ''
     for _ in range(runs):
-        child = subprocess.Popen([TOP / 'bin' / 'svsim', 'run', name], cwd=folder, stdout=subprocess.PIPE, text=True)
+        child = subprocess.Popen([TOP / '.svsim' / 'svsim', 'run', name], cwd=folder, stdout=subprocess.PIPE, text=True)
         line = child.stdout.read().strip()
         _, _, used = os.wait4(child.pid, 0)
         best, peak = min(best, used.ru_utime + used.ru_stime), max(peak, used.ru_maxrss / 1024)
@@ -115,6 +115,7 @@ def call(folder, name, runs):
 def main():
     runs = int(sys.argv[1]) if len(sys.argv) > 1 else 5
     seed = int(sys.argv[2]) if len(sys.argv) > 2 else 1
+    subprocess.run([TOP / 'bin' / 'svsim'], stdout=subprocess.DEVNULL)  # puts the program into .svsim/
     with tempfile.TemporaryDirectory() as folder:
         for mib in [0, 1, 2, 4, 8]:
             text = Source(seed).text((mib << 20) - 2)
