@@ -10,10 +10,10 @@ use Rattle.sv_flat.specs.declared.object.Object.{Object as Declared_object}
 use Rattle.sv_flat.specs.declared.object.DataType.{DataType}
 use Rattle.sv_flat.specs.declared.process.Watch.{Watch}
 use Rattle.sv_flat.specs.declared.process.Watch.TheVariants.{On}
-use Rattle.sv_flat.specs.declared.stmt.Lvalue.{Lvalue}
-use Rattle.sv_flat.specs.declared.stmt.Part.{Part}
-use Rattle.sv_flat.specs.declared.stmt.Base.{Base}
-use Rattle.sv_flat.specs.declared.stmt.Base.TheVariants as base
+use Rattle.sv_flat.specs.declared.target.Lvalue.{Lvalue}
+use Rattle.sv_flat.specs.declared.target.Part.{Part}
+use Rattle.sv_flat.specs.declared.target.Base.{Base}
+use Rattle.sv_flat.specs.declared.target.Base.TheVariants as base
 use Rattle.sv_flat.specs.declared.design.Parts.{Parts}
 use Rattle.sv_flat.specs.Expr.{Expr, Literal, Object, Unary, Binary, Convert, Widen}
 use Rattle.sv_flat.specs.declared.expr.Operands.{Operands}

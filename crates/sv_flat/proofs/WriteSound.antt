@@ -11,10 +11,10 @@ use Rattle.sv_value.specs.Regions.{ready_in, front_of}
 use Rattle.sv_flat.specs.declared.object.Object.{Object}
 use Rattle.sv_flat.specs.declared.object.DataType.{DataType}
 use Rattle.sv_flat.specs.declared.object.DataType.TheVariants as type
-use Rattle.sv_flat.specs.declared.stmt.Lvalue.{Lvalue}
-use Rattle.sv_flat.specs.declared.stmt.Part.{Part}
-use Rattle.sv_flat.specs.declared.stmt.Base.{Base}
-use Rattle.sv_flat.specs.declared.stmt.Base.TheVariants as base
+use Rattle.sv_flat.specs.declared.target.Lvalue.{Lvalue}
+use Rattle.sv_flat.specs.declared.target.Part.{Part}
+use Rattle.sv_flat.specs.declared.target.Base.{Base}
+use Rattle.sv_flat.specs.declared.target.Base.TheVariants as base
 use Rattle.sv_flat.specs.declared.design.Parts.{Parts}
 use Rattle.sv_flat.specs.Eval.{type_width}
 use Rattle.sv_flat.specs.State.{Store, Stored, Elements}

@@ -14,7 +14,7 @@ use Rattle.sv_kernel.specs.Machine.{Stands, Tracks}
 use Rattle.sv_kernel.specs.Log.{records_of}
 use Rattle.sv_kernel.specs.Waits.{awaited_by}
 use Rattle.sv_value.specs.declared.place.Place.{Place}
-use Rattle.sv_flat.specs.declared.stmt.Lvalue.{Lvalue}
+use Rattle.sv_flat.specs.declared.target.Lvalue.{Lvalue}
 use Rattle.sv_flat.specs.Expr.{Expr}
 use Rattle.sv_flat.specs.Short.{assigned, updated_later, update_job, object_of, target_value}
 

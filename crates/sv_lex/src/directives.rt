@@ -161,7 +161,11 @@ pub fn directive(s: &[u8]) -> Piece
     ensures fits { Fits result (length s.now) }
 {
     if let Some(((unit, precision), rest)) = timescale_at(s) {
-        return Piece::Scale(unit, precision, s.len() - rest.len());
+        return Piece::Scale {
+            unit,
+            precision,
+            length: s.len() - rest.len(),
+        };
     }
     if let Some(rest) = nettype_at(s) {
         return Piece::Passed(s.len() - rest.len());

@@ -148,13 +148,17 @@ fn step(
 {
     match piece_in(text, i) {
         Piece::Passed(n) => Ok(n),
-        Piece::Scale(unit, precision, n) => {
+        Piece::Scale {
+            unit,
+            precision,
+            length,
+        } => {
             scales.push(Timescale {
                 unit,
                 precision,
                 at,
             })?;
-            Ok(n)
+            Ok(length)
         }
         Piece::Token(kind, n) => {
             if tokens.len() == MOST_TOKENS {

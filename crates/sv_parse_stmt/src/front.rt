@@ -95,13 +95,26 @@ pub enum Front<'a> {
     /// All of the statement.
     Whole(Placed, &'a [Token]),
     /// One statement is left, and for `do` the end after it.
-    Head(Place, Head, &'a [Token]),
+    Head {
+        at: Place,
+        head: Head,
+        rest: &'a [Token],
+    },
     /// The statements of a block and its end are left.
     Block(BlockHead, &'a [Token]),
     /// A statement is left, and an `else` with another, or none.
-    If(Place, Expr, &'a [Token]),
+    If {
+        at: Place,
+        condition: Expr,
+        rest: &'a [Token],
+    },
     /// The items of a `case` and its end are left.
-    Case(Place, CaseWord, Expr, &'a [Token]),
+    Case {
+        at: Place,
+        word: CaseWord,
+        subject: Expr,
+        rest: &'a [Token],
+    },
 }
 
 /// The front of a statement, or why there is none.

@@ -23,7 +23,11 @@ pub fn if_else<'a>(alloc: Global, tokens: &'a [Token], budget: Budget) -> ReadFr
 {
     let (word, rest) = expect(tokens, Kind::If)?;
     let (condition, rest) = Enclosed::read(alloc, rest, budget)?;
-    Ok(Front::If(word.at, condition, rest))
+    Ok(Front::If {
+        at: word.at,
+        condition,
+        rest,
+    })
 }
 
 /// `("case" | "casez" | "casex") "(" expr ")"`
@@ -33,7 +37,12 @@ pub fn case<'a>(alloc: Global, tokens: &'a [Token], budget: Budget) -> ReadFront
 {
     let ((token, word), rest) = expect_word::<CaseWord>(tokens)?;
     let (subject, rest) = Enclosed::read(alloc, rest, budget)?;
-    Ok(Front::Case(token.at, word, subject, rest))
+    Ok(Front::Case {
+        at: token.at,
+        word,
+        subject,
+        rest,
+    })
 }
 
 // ---- loops
@@ -45,7 +54,11 @@ pub fn while_loop<'a>(alloc: Global, tokens: &'a [Token], budget: Budget) -> Rea
 {
     let (word, rest) = expect(tokens, Kind::While)?;
     let (condition, rest) = Enclosed::read(alloc, rest, budget)?;
-    Ok(Front::Head(word.at, Head::While(condition), rest))
+    Ok(Front::Head {
+        at: word.at,
+        head: Head::While(condition),
+        rest,
+    })
 }
 
 /// `"do"`
@@ -54,7 +67,11 @@ pub fn do_loop<'a>(tokens: &'a [Token]) -> ReadFront<'a>
     ensures { (d : ℕ) → Begun d result (reads d grammar.do_ (toks tokens.now)) }
 {
     let (word, rest) = expect(tokens, Kind::Do)?;
-    Ok(Front::Head(word.at, Head::Do, rest))
+    Ok(Front::Head {
+        at: word.at,
+        head: Head::Do,
+        rest,
+    })
 }
 
 /// `"repeat" "(" expr ")"`
@@ -64,7 +81,11 @@ pub fn repeat<'a>(alloc: Global, tokens: &'a [Token], budget: Budget) -> ReadFro
 {
     let (word, rest) = expect(tokens, Kind::Repeat)?;
     let (count, rest) = Enclosed::read(alloc, rest, budget)?;
-    Ok(Front::Head(word.at, Head::Repeat(count), rest))
+    Ok(Front::Head {
+        at: word.at,
+        head: Head::Repeat(count),
+        rest,
+    })
 }
 
 /// `"forever"`
@@ -73,7 +94,11 @@ pub fn forever<'a>(tokens: &'a [Token]) -> ReadFront<'a>
     ensures { (d : ℕ) → Begun d result (reads d grammar.forever (toks tokens.now)) }
 {
     let (word, rest) = expect(tokens, Kind::Forever)?;
-    Ok(Front::Head(word.at, Head::Forever, rest))
+    Ok(Front::Head {
+        at: word.at,
+        head: Head::Forever,
+        rest,
+    })
 }
 
 /// `"foreach" "(" id "[" id "]" ")"`
@@ -88,7 +113,11 @@ pub fn foreach<'a>(tokens: &'a [Token]) -> ReadFront<'a>
     let (index, rest) = name(rest)?;
     let (_, rest) = expect(rest, Kind::RightBracket)?;
     let (_, rest) = expect(rest, Kind::RightParenthesis)?;
-    Ok(Front::Head(word.at, Head::Foreach { array, index }, rest))
+    Ok(Front::Head {
+        at: word.at,
+        head: Head::Foreach { array, index },
+        rest,
+    })
 }
 
 /// `"for" "(" (type id "=" expr | lval "=" expr) ";" expr ";" step ")"`
@@ -111,7 +140,11 @@ pub fn for_loop<'a>(alloc: Global, tokens: &'a [Token], budget: Budget) -> ReadF
         condition,
         step,
     };
-    Ok(Front::Head(word.at, head, rest))
+    Ok(Front::Head {
+        at: word.at,
+        head,
+        rest,
+    })
 }
 
 // ---- waits
@@ -122,7 +155,11 @@ pub fn after<'a>(alloc: Global, tokens: &'a [Token], budget: Budget) -> ReadFron
     ensures { Begun budget result (reads budget grammar.after (toks tokens.now)) }
 {
     let (delay, rest) = Delays::read(alloc, tokens, budget)?;
-    Ok(Front::Head(delay.at, Head::After(delay), rest))
+    Ok(Front::Head {
+        at: delay.at,
+        head: Head::After(delay),
+        rest,
+    })
 }
 
 /// `"@" event`
@@ -132,7 +169,11 @@ pub fn on_event<'a>(alloc: Global, tokens: &'a [Token], budget: Budget) -> ReadF
 {
     let (sign, rest) = expect(tokens, Kind::At)?;
     let (event, rest) = event(alloc, rest, budget)?;
-    Ok(Front::Head(sign.at, Head::On(event), rest))
+    Ok(Front::Head {
+        at: sign.at,
+        head: Head::On(event),
+        rest,
+    })
 }
 
 /// `"##" (number | id | "(" expr ")")`
@@ -142,7 +183,11 @@ pub fn cycles<'a>(alloc: Global, tokens: &'a [Token], budget: Budget) -> ReadFro
 {
     let (sign, rest) = expect(tokens, Kind::HashHash)?;
     let (amount, rest) = cycles_amount(alloc, rest, budget)?;
-    Ok(Front::Head(sign.at, Head::Cycles(amount), rest))
+    Ok(Front::Head {
+        at: sign.at,
+        head: Head::Cycles(amount),
+        rest,
+    })
 }
 
 /// `"wait" "(" expr ")"`, or all of `"wait" "fork" ";"`
@@ -154,7 +199,11 @@ pub fn wait<'a>(alloc: Global, tokens: &'a [Token], budget: Budget) -> ReadFront
     if is_next(rest, Kind::LeftParenthesis) {
         budget.deeper(rest)?;
         let (condition, rest) = Enclosed::read(alloc, rest, budget)?;
-        return Ok(Front::Head(word.at, Head::Wait(condition), rest));
+        return Ok(Front::Head {
+            at: word.at,
+            head: Head::Wait(condition),
+            rest,
+        });
     }
     let (_, rest) = expect(rest, Kind::Fork)?;
     let (_, rest) = expect(rest, Kind::Semicolon)?;

@@ -44,7 +44,7 @@ fn completed<'a>(alloc: Global, front: Front<'a>, budget: Budget) -> Read<'a, Pl
 {
     match front {
         Front::Whole(form, rest) => Ok((form, rest)),
-        Front::Head(at, head, rest) => {
+        Front::Head { at, head, rest } => {
             let (inner, rest) = statement(alloc, rest, budget)?;
             head.completed(alloc, at, inner, rest, budget)
         }
@@ -52,11 +52,20 @@ fn completed<'a>(alloc: Global, front: Front<'a>, budget: Budget) -> Read<'a, Pl
             let (stmts, rest) = statements(alloc, rest, budget)?;
             block_end(head, stmts, rest)
         }
-        Front::If(at, condition, rest) => {
+        Front::If {
+            at,
+            condition,
+            rest,
+        } => {
             let (body, rest) = if_rest(alloc, condition, rest, budget)?;
             Ok((Placed { at, body }, rest))
         }
-        Front::Case(at, word, subject, rest) => {
+        Front::Case {
+            at,
+            word,
+            subject,
+            rest,
+        } => {
             let (items, rest) = case_items(alloc, rest, budget)?;
             case_end(at, word, subject, items, rest)
         }

@@ -48,8 +48,15 @@ pub enum Refused {
 pub enum Piece {
     /// A separator, or a directive without effect.
     Passed(usize),
-    /// A time scale: its unit and its precision, as in `Timescale`, then its length.
-    Scale(u32, u32, usize),
+    /// A time scale.
+    Scale {
+        /// Its unit, as in `Timescale`.
+        unit: u32,
+        /// Its precision, as in `Timescale`.
+        precision: u32,
+        /// Its length in bytes.
+        length: usize,
+    },
     /// A token.
     Token(Kind, usize),
     /// Nothing can be read.

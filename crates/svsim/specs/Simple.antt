@@ -9,8 +9,8 @@ use Rattle.sv_flat.specs.declared.object.Object.{Object}
 use Rattle.sv_flat.specs.declared.process.Edge.{Edge}
 use Rattle.sv_flat.specs.declared.process.Edge.TheVariants as edge
 use Rattle.sv_flat.specs.declared.process.Watch.TheVariants.{On}
-use Rattle.sv_flat.specs.declared.stmt.Base.TheVariants as base
-use Rattle.sv_flat.specs.declared.stmt.Lvalue.{Lvalue}
+use Rattle.sv_flat.specs.declared.target.Base.TheVariants as base
+use Rattle.sv_flat.specs.declared.target.Lvalue.{Lvalue}
 use Rattle.sv_flat.specs.declared.stmt.Form.{Form}
 use Rattle.sv_flat.specs.declared.stmt.Form.TheVariants as form
 use Rattle.sv_flat.specs.declared.stmt.PrintKind.{PrintKind}

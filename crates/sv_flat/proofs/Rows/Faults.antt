@@ -8,8 +8,8 @@ use Rattle.sv_flat.specs.declared.choices.Choices.TheVariants.{Listed}
 use Rattle.sv_flat.specs.declared.object.DataType.TheVariants as type
 use Rattle.sv_flat.specs.declared.stmt.Form.{Form}
 use Rattle.sv_flat.specs.declared.stmt.Form.TheVariants as form
-use Rattle.sv_flat.specs.declared.stmt.Lvalue.{Lvalue}
-use Rattle.sv_flat.specs.declared.stmt.Base.TheVariants as base
+use Rattle.sv_flat.specs.declared.target.Lvalue.{Lvalue}
+use Rattle.sv_flat.specs.declared.target.Base.TheVariants as base
 use Rattle.sv_flat.specs.declared.design.Parts.{Parts}
 use Rattle.sv_flat.specs.Expr as expr
 use Rattle.sv_flat.specs.Effects.Ends.{is_over}

@@ -8,7 +8,7 @@ use Rattle.std.proofs.lemmas.List.{append-nil}
 use Rattle.sv_kernel.specs.declared.log.Line.{Line}
 use Rattle.sv_flat.specs.declared.stmt.PrintKind.{PrintKind}
 use Rattle.sv_flat.specs.declared.stmt.PrintKind.TheVariants as print
-use Rattle.sv_flat.specs.declared.stmt.Lvalue.{Lvalue}
+use Rattle.sv_flat.specs.declared.target.Lvalue.{Lvalue}
 use Rattle.sv_flat.specs.declared.process.Watch.{Watch}
 use Rattle.sv_flat.specs.Eval.{vector_in}
 use Rattle.sv_flat.specs.Statements.{branch}
