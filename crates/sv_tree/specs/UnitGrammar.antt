@@ -17,7 +17,7 @@ use Rattle.sv_tree.specs.declared.word.PortDirection.{PortDirection}
 use Rattle.sv_tree.specs.declared.word.PortDirection.TheVariants as port_direction
 use Rattle.sv_tree.specs.declared.word.ProcedureWord.{ProcedureWord}
 use Rattle.sv_tree.specs.declared.word.ProcedureWord.TheVariants as procedure_word
-use Rattle.sv_tree.specs.declared.unit.Qualifiers.{Qualifiers}
+use Rattle.sv_tree.specs.declared.class.Qualifiers.{Qualifiers}
 use Rattle.sv_tree.specs.Codes.{code}
 use Rattle.sv_tree.specs.Expr as tree
 use Rattle.sv_tree.specs.Types as types

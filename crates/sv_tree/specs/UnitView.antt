@@ -13,18 +13,18 @@ use Rattle.sv_tree.specs.declared.unit.Returns.TheVariants as results
 use Rattle.sv_tree.specs.declared.unit.Head.{Head}
 use Rattle.sv_tree.specs.declared.unit.Routine.{Routine}
 use Rattle.sv_tree.specs.declared.unit.Typedef.{Typedef}
-use Rattle.sv_tree.specs.declared.unit.Property.{Property}
-use Rattle.sv_tree.specs.declared.unit.Method.{Method}
-use Rattle.sv_tree.specs.declared.unit.PureMethod.{PureMethod}
-use Rattle.sv_tree.specs.declared.unit.ClassItem.{ClassItem}
-use Rattle.sv_tree.specs.declared.unit.ClassItem.TheVariants as class_items
-use Rattle.sv_tree.specs.declared.unit.Class.{Class}
-use Rattle.sv_tree.specs.declared.unit.Skew.{Skew}
-use Rattle.sv_tree.specs.declared.unit.Skew.TheVariants as skews
-use Rattle.sv_tree.specs.declared.unit.Sided.{Sided}
-use Rattle.sv_tree.specs.declared.unit.ClockingItem.{ClockingItem}
-use Rattle.sv_tree.specs.declared.unit.ClockingItem.TheVariants as clocking_items
-use Rattle.sv_tree.specs.declared.unit.ClockingBlock.{ClockingBlock}
+use Rattle.sv_tree.specs.declared.class.Property.{Property}
+use Rattle.sv_tree.specs.declared.class.Method.{Method}
+use Rattle.sv_tree.specs.declared.class.PureMethod.{PureMethod}
+use Rattle.sv_tree.specs.declared.class.ClassItem.{ClassItem}
+use Rattle.sv_tree.specs.declared.class.ClassItem.TheVariants as class_items
+use Rattle.sv_tree.specs.declared.class.Class.{Class}
+use Rattle.sv_tree.specs.declared.clocking.Skew.{Skew}
+use Rattle.sv_tree.specs.declared.clocking.Skew.TheVariants as skews
+use Rattle.sv_tree.specs.declared.clocking.Sided.{Sided}
+use Rattle.sv_tree.specs.declared.clocking.ClockingItem.{ClockingItem}
+use Rattle.sv_tree.specs.declared.clocking.ClockingItem.TheVariants as clocking_items
+use Rattle.sv_tree.specs.declared.clocking.ClockingBlock.{ClockingBlock}
 use Rattle.sv_tree.specs.declared.unit.NetItem.{NetItem}
 use Rattle.sv_tree.specs.declared.unit.NetDecl.{NetDecl}
 use Rattle.sv_tree.specs.declared.unit.AssignItem.{AssignItem}

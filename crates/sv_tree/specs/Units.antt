@@ -9,7 +9,7 @@ use Rattle.sv_tree.specs.declared.word.PortDirection.{PortDirection}
 use Rattle.sv_tree.specs.declared.word.Direction.{Direction}
 use Rattle.sv_tree.specs.declared.word.EdgeWord.{EdgeWord}
 use Rattle.sv_tree.specs.declared.word.ProcedureWord.{ProcedureWord}
-use Rattle.sv_tree.specs.declared.unit.Qualifiers.{Qualifiers}
+use Rattle.sv_tree.specs.declared.class.Qualifiers.{Qualifiers}
 use Rattle.sv_tree.specs.Expr.{Expr, Lval}
 use Rattle.sv_tree.specs.Types.{WrittenType, ImpliedType, Range}
 use Rattle.sv_tree.specs.Stmt.{Decl, Stmt, Stmts}

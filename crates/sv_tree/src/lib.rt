@@ -6,6 +6,8 @@
 //! `specs/` says what a text means: `Tokens` and `Lexing` which tokens it has, and `Grammar` which trees tokens spell.
 #![tactic(auto)]
 
+mod class;
+mod clocking;
 mod expr;
 mod kind;
 mod statement;
@@ -14,6 +16,8 @@ mod types;
 mod unit;
 mod word;
 
+pub use class::{Class, ClassItem, Method, Property, PureMethod, Qualifiers};
+pub use clocking::{ClockingBlock, ClockingItem, Sided, Skew};
 pub use expr::{Actuals, CastType, Expr, Lval, Root, Suffix};
 pub use kind::{Kind, SIGNS, UNUSED, WORDS};
 pub use statement::{
@@ -23,9 +27,8 @@ pub use statement::{
 pub use token::{MOST_TOKENS, Piece, Refused, Timescale, Token};
 pub use types::{EnumItem, ImpliedType, Range, WrittenType};
 pub use unit::{
-    Argument, AssignItem, Class, ClassItem, ClockingBlock, ClockingItem, Connection, Description,
-    DesignElement, Head, Instance, Instances, Item, Method, NetDecl, NetItem, Param, ParamItem,
-    Port, Procedure, Property, PureMethod, Qualifiers, Returns, Routine, Sided, Skew, Typedef,
+    Argument, AssignItem, Connection, Description, DesignElement, Head, Instance, Instances, Item,
+    NetDecl, NetItem, Param, ParamItem, Port, Procedure, Returns, Routine, Typedef,
 };
 pub use word::{
     AtomWord, BinaryWord, CaseWord, Direction, EdgeWord, JoinWord, Life, Name, ParamWord, PartWord,
