@@ -25,7 +25,8 @@ use Rattle.sv_flat.specs.declared.design.Parts.{Parts}
 use Rattle.svsim.specs.declared.front.FrontFault.{FrontFault}
 use Rattle.svsim.specs.declared.front.FrontFault.TheVariants as front
 use Rattle.svsim.specs.Form.{design_of, has_unit}
-use Rattle.svsim.specs.Source.{IsParsed, IsSource, IsMisspelled, Explains, MOST_TREE_DEPTH}
+use Rattle.svsim.specs.Source.{IsParsed, IsSource, IsMisspelled, Explains}
+use Rattle.sv_tree.specs.Depth.{most_depth}
 use Rattle.svsim.proofs.SourceLemmas.{one_reading}
 
 -- ---- the place where reading stops
@@ -107,13 +108,13 @@ module _ (text : List ℕ) where
   lexed x ts e p = let no : None ≡ Some x = sym p.no_fault ∙ e in cc
 
   spelled : (us : List Description) (at : Place) (k : SyntaxKind) → IsParsed text us → IsMisspelled text at k → ⊥
-  spelled us at k p q = read_through MOST_TREE_DEPTH (toks q.tokens) us at k (subst (λ (ts : List Token). Reads (texts_of file) MOST_TREE_DEPTH (toks ts) us []) (same_tokens p.tokens q.tokens p.lexes q.lexes) p.spells) q.fault
+  spelled us at k p q = read_through most_depth (toks q.tokens) us at k (subst (λ (ts : List Token). Reads (texts_of file) most_depth (toks ts) us []) (same_tokens p.tokens q.tokens p.lexes q.lexes) p.spells) q.fault
 
   rooted : (us vs : List Description) → IsParsed text us → IsParsed text vs → has_unit us ≡ true → has_unit vs ≡ false → ⊥
   rooted us vs p q e f = let no : true ≡ false = sym e ∙ ap has_unit (one_reading text us vs p q) ∙ f in cc
 
   misspelled : (a b : Place) (k m : SyntaxKind) → IsMisspelled text a k → IsMisspelled text b m → (a ≡ b) × (k ≡ m)
-  misspelled a b k m p q = one_syntax MOST_TREE_DEPTH (toks q.tokens) a b k m (subst (λ (ts : List Token). IsFault MOST_TREE_DEPTH (toks ts) a k) (same_tokens p.tokens q.tokens p.lexes q.lexes) p.fault) q.fault
+  misspelled a b k m p q = one_syntax most_depth (toks q.tokens) a b k m (subst (λ (ts : List Token). IsFault most_depth (toks ts) a k) (same_tokens p.tokens q.tokens p.lexes q.lexes) p.fault) q.fault
 
   pub one_fault : (f g : FrontFault) → Explains text f → Explains text g → f ≢ front.Memory → g ≢ front.Memory → f ≡ g
   one_fault (front.Lexical a k) (front.Lexical b m) p q n o = ap lexical (sym p ∙ q)

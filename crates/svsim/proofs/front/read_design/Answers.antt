@@ -8,15 +8,16 @@ use Rattle.sv_tree.specs.Codes.{toks}
 use Rattle.sv_tree.specs.Grammar.{texts_of}
 use Rattle.sv_tree.specs.UnitGrammar.{file}
 use Rattle.sv_tree.specs.UnitView.{description}
-use Rattle.svsim.specs.Source.{Declines, MOST_TREE_DEPTH}
+use Rattle.svsim.specs.Source.{Declines}
+use Rattle.sv_tree.specs.Depth.{most_depth}
 use Rattle.svsim.proofs.SourceLemmas.{all_explained}
 use Rattle.svsim.proofs.front.read_design.Goals as goal
 
 pub returns-clause-fault : goal.returns-clause-fault
 returns-clause-fault c =
     let us = map description c.in_ok-units.units.items in
-    let spells : Reads (texts_of file) MOST_TREE_DEPTH (toks c.in_ok-lexed.lexed.tokens.items) us [] =
-    subst (λ (ts : List Token). Reads (texts_of file) MOST_TREE_DEPTH (toks ts) us []) c.deref.ensures.value c.in_ok-units.ensures.units in
+    let spells : Reads (texts_of file) most_depth (toks c.in_ok-lexed.lexed.tokens.items) us [] =
+    subst (λ (ts : List Token). Reads (texts_of file) most_depth (toks ts) us []) c.deref.ensures.value c.in_ok-units.ensures.units in
     all_explained c.args.text.now us (record { tokens = c.in_ok-lexed.lexed.tokens.items; lexes = c.in_ok-lexed.ensures.tokens; spells = spells }) c.design_of.result
     (subst (λ (ss : List Timescale). IfErr c.design_of.result (Declines ss us)) (c.deref-2.ensures.value ∙ c.in_ok-lexed.ensures.scales)
     (subst (λ (vs : List Description). IfErr c.design_of.result (Declines c.deref-2.result.now (map description vs))) c.deref-3.ensures.value c.design_of.ensures.none))
