@@ -16,8 +16,8 @@ use Rattle.sv_flat.specs.declared.target.Base.{Base}
 use Rattle.sv_flat.specs.declared.target.Base.TheVariants as base
 use Rattle.sv_flat.specs.declared.design.Parts.{Parts}
 use Rattle.sv_flat.specs.Expr.{Expr, Literal, Object, Unary, Binary, Convert, Widen}
-use Rattle.sv_flat.specs.declared.expr.Operands.{Operands}
-use Rattle.sv_flat.specs.declared.expr.Operands.TheVariants as operands
+use Rattle.sv_flat.specs.declared.context.Operands.{Operands}
+use Rattle.sv_flat.specs.declared.context.Operands.TheVariants as operands
 use Rattle.sv_flat.specs.Eval.{Valued, Operand, operands_of, is_in_context, width_of, is_signed, eval, value_of, with_result, with_both, by_operands, decides, bits, vector_in, binary_width}
 use Rattle.sv_flat.specs.State.{View}
 use Rattle.sv_flat.specs.Targets.{based, spots_of, looked_through, range_of}

@@ -90,9 +90,7 @@ fn delay(alloc: Global) -> Result<Form, NoMemory> {
         fill: None,
     };
     Ok(Form::Delay {
-        amount: Expr {
-            form: Box::new(alloc, literal)?,
-        },
+        amount: Expr::new(alloc, literal)?,
         in_ticks: false,
     })
 }

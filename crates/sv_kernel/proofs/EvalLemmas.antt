@@ -14,8 +14,9 @@ use Rattle.sv_flat.specs.Eval.{operands_of, is_in_context}
 use Rattle.sv_flat.specs.State.{View}
 use Rattle.sv_flat.proofs.Weights.{there}
 use Rattle.sv_kernel.specs.declared.expressions.Change.{Change}
-use Rattle.sv_kernel.specs.declared.expressions.Context.{Context}
-use Rattle.sv_kernel.specs.Expressions.{Sees, within, operand_context, unary_within, left_context, right_context, binary_within}
+use Rattle.sv_flat.specs.declared.context.Context.{Context}
+use Rattle.sv_flat.specs.Contexts.{within, operand_context, unary_within, left_context, right_context, binary_within}
+use Rattle.sv_kernel.specs.Expressions.{Sees}
 
 -- a value in a context has its width
 pub within_width : (c : Context) (x : Vector) → length (within c x).symbols ≡ c.width

@@ -9,7 +9,11 @@ use Rattle.sv_value.specs.declared.schedule.Side.{Side}
 use Rattle.sv_value.specs.Regions.{Regions, ready_in, front_of}
 use Rattle.sv_value.specs.Vector.{Vector}
 use Rattle.sv_flat.specs.declared.design.Parts.{Parts}
+use Rattle.sv_flat.specs.declared.object.DataType.{DataType}
+use Rattle.sv_flat.specs.declared.object.Object.{Object}
 use Rattle.sv_flat.specs.declared.stmt.Stmt.{Stmt}
+use Rattle.sv_flat.specs.declared.target.Base.{Base}
+use Rattle.sv_flat.specs.declared.target.Base.TheVariants as base
 use Rattle.sv_flat.specs.State.{Store, Elements, View, element_of}
 use Rattle.sv_flat.specs.Process
 use Rattle.sv_flat.specs.Process.{ProcessState, Status, Ready, Running, Waiting, Moment, Turn_in_slot, Watches, Children, Queue, Start, Cell}
@@ -17,7 +21,7 @@ use Rattle.sv_flat.specs.Config.{Config, seen}
 use Rattle.sv_flat.specs.Woken.{Changed, is_woken, wakes}
 use Rattle.sv_flat.specs.Effects.{write_occurred}
 use Rattle.sv_flat.specs.Effects.Writes.{changed_at, stored_over}
-use Rattle.sv_flat.specs.Built.{IsBuilt}
+use Rattle.sv_flat.specs.Built.{IsBuilt, IsBuiltBase}
 use Rattle.sv_flat.specs.Sound.{IsSound, side_of_state}
 use Rattle.sv_flat.specs.Short.{with_value}
 use Rattle.sv_flat.proofs.Stepping.{slice_get-set_same}
@@ -28,7 +32,15 @@ use Rattle.sv_kernel.specs.Expressions.{store_of, Sees}
 use Rattle.sv_kernel.specs.Waits.{Awaited, awaited, awaited_by, awaited_at, fires}
 use Rattle.sv_kernel.specs.Wakes.{woken_at, waits_after, ready_after, sides}
 use Rattle.sv_kernel.specs.Machine.{Stands}
+use Rattle.sv_kernel.specs.Statements.{NamesObject}
 use Rattle.sv_kernel.proofs.Pictures.{of_machine, stands_by, picture}
+
+-- ---- targets
+
+-- the targets of designs that are built are objects
+pub names_object : (os : List Object) (t : DataType) (b : Base) → IsBuiltBase os t b → NamesObject b
+names_object os t (base.Object o) h = tt
+names_object os t b h = absurd h
 
 -- ---- the store
 

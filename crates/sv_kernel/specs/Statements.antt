@@ -15,6 +15,8 @@ use Rattle.sv_kernel.specs.Log.{records_of}
 use Rattle.sv_kernel.specs.Waits.{awaited_by}
 use Rattle.sv_value.specs.declared.place.Place.{Place}
 use Rattle.sv_flat.specs.declared.target.Lvalue.{Lvalue}
+use Rattle.sv_flat.specs.declared.target.Base.{Base}
+use Rattle.sv_flat.specs.declared.target.Base.TheVariants as base
 use Rattle.sv_flat.specs.Expr.{Expr}
 use Rattle.sv_flat.specs.Short.{assigned, updated_later, update_job, object_of, target_value}
 
@@ -34,6 +36,11 @@ pub record Runs (d : Parts) (m : Machine) (p : ProcessId) (side : Side) (c : Con
 -- a configuration, from the one before, the process and what it has left
 abbrev pub Leaves : Type 0
 Leaves = Config → ProcessState → List Todo → Config
+
+-- what is written is an object
+abbrev pub NamesObject : Base → Type 0
+NamesObject (base.Object o) = Unit {0}
+NamesObject _ = ⊥
 
 -- what an assignment leaves
 abbrev pub assigned_to : Parts → Place → ProcessId → Lvalue → Expr → Leaves

@@ -11,7 +11,7 @@ ghost use Rattle.sv_flat.specs.Built.{IsBuilt, IsBuiltForm, IsBuiltExpr, IsBuilt
 ghost use Rattle.sv_flat.specs.Sound.{weight_of_all, IsSound, IsPlainJob};
 ghost use Rattle.sv_flat.specs.Short.{short, gone_on, assigned, target_value, object_of, text_now, printed_now, value_now, update_job, updated_later};
 ghost use Rattle.sv_kernel.specs.Frames.{all_left, list_at, is_more};
-ghost use Rattle.sv_kernel.specs.Statements.{Does, assigned_to, updated_after};
+ghost use Rattle.sv_kernel.specs.Statements.{Does, NamesObject, assigned_to, updated_after};
 ghost use Rattle.sv_kernel.specs.Expressions.{store_of};
 ghost use Rattle.sv_kernel.specs.Wakes.{waits_weight};
 ghost use Rattle.sv_kernel.specs.Waits.{IsTicks};
@@ -34,6 +34,7 @@ use sv_value::{
 };
 
 /// An object gets the value of an expression, and the process goes on.
+#[tactic(auto, using(crate::proofs::WriteLemmas::names_object))]
 pub fn assign(
     machine: &mut Machine,
     design: &Design,
@@ -57,6 +58,7 @@ pub fn assign(
 }
 
 /// An object gets the value of an expression so many ticks from now.
+#[tactic(auto, using(crate::proofs::WriteLemmas::names_object))]
 pub fn update_later(
     machine: &mut Machine,
     design: &Design,
@@ -187,12 +189,13 @@ pub fn value_for(design: &Design, target: &Lvalue, expr: &Expr, values: &[Bits])
     }
 }
 
-/// The object that a target names.
-pub fn object_of(base: &Base) -> ObjId
+/// The object that a target names, which is written whole.
+fn object_of(base: &Base) -> ObjId
+    requires { NamesObject base.now }
     ensures { result ≡ object_of base.now }
 {
     match base {
         Base::Object(object) => *object,
-        _ => ObjId(0),
+        _ => unreachable!(),
     }
 }

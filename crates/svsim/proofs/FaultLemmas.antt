@@ -24,7 +24,7 @@ use Rattle.sv_parse_unit.specs.Files.{IsFault}
 use Rattle.sv_flat.specs.declared.design.Parts.{Parts}
 use Rattle.svsim.specs.declared.front.FrontFault.{FrontFault}
 use Rattle.svsim.specs.declared.front.FrontFault.TheVariants as front
-use Rattle.svsim.specs.Form.{design_of, has_unit}
+use Rattle.sv_form.specs.Form.{design_of, has_unit}
 use Rattle.svsim.specs.Source.{IsParsed, IsSource, IsMisspelled, Explains}
 use Rattle.sv_tree.specs.Depth.{most_depth}
 use Rattle.svsim.proofs.SourceLemmas.{one_reading}

@@ -1,12 +1,12 @@
 // From the text of a file to its design.
 ghost use Rattle.std.specs.Prelude.{◌≡◌, ◌≤◌, ◌^◌, IfOk, IfErr, length, map};
 ghost use Rattle.sv_tree.specs.UnitView.{description as file_tree};
-ghost use Rattle.svsim.specs.Source.{IsSource, IsDesign, Declines, Explains, of_lexical, of_syntax, refusal_text, syntax_text};
+ghost use Rattle.svsim.specs.Source.{IsSource, IsDesign, Declines, Explains, of_form, of_lexical, of_syntax, refusal_text, syntax_text};
 ghost use Rattle.svsim.specs.declared.front.FrontFault.TheVariants.{Memory};
 
-use crate::form::{has_unit, parts_of};
 use std::alloc::{AllocError, AllocFailed, Global};
 use sv_flat::{Design, is_built};
+use sv_form::{FormFault, has_unit, parts_of};
 use sv_lex::{LexFault, lex};
 use sv_parse::{SyntaxFault, SyntaxKind};
 use sv_parse_unit::parse;
@@ -68,6 +68,17 @@ impl From<SyntaxFault> for FrontFault {
         match fault {
             SyntaxFault::Memory => FrontFault::Memory,
             SyntaxFault::Bad { at, kind } => FrontFault::Syntax { at, kind },
+        }
+    }
+}
+
+impl From<FormFault> for FrontFault {
+    ghost from_gives = { λ fault e. e ≡ of_form fault };
+
+    fn from(fault: FormFault) -> Self {
+        match fault {
+            FormFault::NotYet => FrontFault::NotYet,
+            FormFault::Memory => FrontFault::Memory,
         }
     }
 }

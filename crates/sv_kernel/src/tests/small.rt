@@ -2,7 +2,7 @@
 ghost use Rattle.std.specs.Prelude.{IfOk};
 ghost use Rattle.sv_flat.specs.Built.{IsListed};
 
-use std::alloc::Global;
+use std::alloc::{AllocError, Global};
 use sv_flat::{
     Base, Choices, DataType, Design, Edge, Expr, ExprForm, Form, Home, Lvalue, Object, ObjectKind,
     Parts, PrintKind, Process, ProcessKind, Routine, Scale, Stmt, Watch, is_built,
@@ -111,26 +111,20 @@ fn form_of(alloc: Global, item: &Item) -> Result<Form, NoMemory> {
     }
 }
 
-fn expr_of(alloc: Global, form: ExprForm) -> Result<Expr, NoMemory> {
-    Ok(Expr {
-        form: Box::new(alloc, form)?,
-    })
+fn literal_of(alloc: Global, value: Bits) -> Result<Expr, AllocError> {
+    Expr::new(alloc, ExprForm::Literal { value, fill: None })
 }
 
-fn literal_of(alloc: Global, value: Bits) -> Result<Expr, NoMemory> {
-    expr_of(alloc, ExprForm::Literal { value, fill: None })
-}
-
-fn value_of(alloc: Global, variable: Variable) -> Result<Expr, NoMemory> {
+fn value_of(alloc: Global, variable: Variable) -> Result<Expr, AllocError> {
     let form = ExprForm::Object {
         at: HERE,
         object: variable.object(),
         ty: variable.ty(),
     };
-    expr_of(alloc, form)
+    Expr::new(alloc, form)
 }
 
-fn source_of(alloc: Global, source: Source) -> Result<Expr, NoMemory> {
+fn source_of(alloc: Global, source: Source) -> Result<Expr, AllocError> {
     match source {
         Source::Number(number) => literal_of(alloc, Bits::truncated(32, true, number.into(), 0)),
         Source::Unknown => literal_of(alloc, Bits::new(1, false, 0, 1)),
@@ -141,7 +135,7 @@ fn source_of(alloc: Global, source: Source) -> Result<Expr, NoMemory> {
                 left: value_of(alloc, variable)?,
                 right: literal_of(alloc, Bits::new(32, true, 1, 0))?,
             };
-            expr_of(alloc, form)
+            Expr::new(alloc, form)
         }
     }
 }
