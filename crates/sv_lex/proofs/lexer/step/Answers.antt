@@ -13,7 +13,7 @@ returns-in-Passed-clause-goes c =
 
 pub returns-in_ok-push-in-Scale-clause-goes : goal.returns-in_ok-push-in-Scale-clause-goes
 returns-in_ok-push-in-Scale-clause-goes c =
-    scale_joined c.args.tokens.now.items c.args.scales.now.items c.push.new.self.items c.args.at (drop c.args.i c.args.text.now) c.in-Scale.unit c.in-Scale.precision c.in-Scale.n
+    scale_joined c.args.tokens.now.items c.args.scales.now.items c.push.new.self.items c.args.at (drop c.args.i c.args.text.now) c.in-Scale.unit c.in-Scale.precision c.in-Scale.length
     c.in-Scale.ensures.value c.in-Scale.ensures.fits.0 c.in-Scale.ensures.fits.1 c.in_ok-push-in-Scale.ensures.items
 
 pub returns-in_ok-push-in-Token-clause-goes : goal.returns-in_ok-push-in-Token-clause-goes
