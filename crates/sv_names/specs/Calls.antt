@@ -17,7 +17,7 @@ use Rattle.sv_names.specs.declared.around.ClassInfo.{ClassInfo}
 use Rattle.sv_names.specs.declared.checked.Checked.{Checked}
 use Rattle.sv_names.specs.declared.checked.Checked.TheVariants.{Good, Broken}
 use Rattle.sv_names.specs.declared.ty.Ty.{Ty}
-use Rattle.sv_names.specs.declared.ty.Ty.TheVariants.{Text, Class, Null, Nothing, MailboxOf, Enum}
+use Rattle.sv_names.specs.declared.ty.Ty.TheVariants.{Text, Class, Nothing, MailboxOf, Enum}
 use Rattle.sv_names.specs.declared.hoisted.Hoisted.{Hoisted}
 use Rattle.sv_names.specs.declared.typed.Typed.{Typed}
 use Rattle.sv_names.specs.declared.named.Formal.{Formal}
@@ -29,14 +29,14 @@ use Rattle.sv_names.specs.declared.named.Named.TheVariants.{Constant}
 use Rattle.sv_names.specs.declared.named.Protection.{Protection}
 use Rattle.sv_names.specs.declared.named.Protection.TheVariants.{Open, Local as Local_to_class, Protected}
 use Rattle.sv_names.specs.Checked.{both, ◌▷◌, given, broken_at, rule, fine, ◌where_also◌, also_broken, only}
-use Rattle.sv_names.specs.Types.{Path, Numbers, int_type, is_array, is_integral, is_text, is_class, is_null, is_enum, is_fixed, same_type, same_enum, item_of, key_of, plain_of, data_of, message_type, integral_or, same_path, same_bytes, as_type}
+use Rattle.sv_names.specs.Types.{Path, int_type, is_array, is_integral, is_text, is_class, is_null, is_enum, same_type, same_enum, item_of, key_of, plain_of, data_of, message_type, integral_or, same_path, same_bytes, as_type}
 use Rattle.sv_names.specs.Hoisted.{pure, mapped, paired, three, in_row, result_of}
-use Rattle.sv_names.specs.Named.{Around, class_in, is_derived, in_turn, behind, raised, hidden_in}
+use Rattle.sv_names.specs.Named.{Around, class_in, is_derived, in_turn}
 use Rattle.sv_names.specs.Values.{value_typed, constant_vector, assigned, exactly, alone, number_index, one_item}
 use Rattle.sv_names.specs.Selects.{container_of, key_for}
 use Rattle.sv_names.specs.Targets.{Spot, lvalues, takes, read_of, beside, hidden_in_target}
 use Rattle.sv_names.specs.Methods
-use Rattle.sv_names.specs.Methods.{Method, Action, Gives, Nothing_at_once, Nothing_later, A_value_of, type_given, gives_value, may_wait}
+use Rattle.sv_names.specs.Methods.{Method, Action, Gives, type_given, gives_value, may_wait}
 use Rattle.sv_names.specs.Formats.{Arg, values_stand}
 
 -- what a call is: a call, with the type of what it gives, or an operator

@@ -8,12 +8,12 @@ use Rattle.sv_tree.specs.declared.word.Sign.{Sign}
 use Rattle.sv_tree.specs.declared.word.Direction.{Direction}
 use Rattle.sv_tree.specs.declared.word.Direction.TheVariants as direction
 use Rattle.sv_tree.specs.Expr as tree
-use Rattle.sv_tree.specs.Expr.{place_of}
 use Rattle.sv_tree.specs.Types as tree_type
 use Rattle.sv_tree.specs.Types.{WrittenType, ImpliedType, Range, EnumItem}
 use Rattle.sv_tree.specs.Stmt as tree_stmt
 use Rattle.sv_tree.specs.Stmt.{Decl, Declarator, Dimension}
 use Rattle.sv_tree.specs.Units as tree_unit
+use Rattle.sv_tree.specs.Classes as tree_class
 use Rattle.sv_tree.specs.declared.class.Qualifiers.{Qualifiers}
 use Rattle.sv_tree.specs.Units.{Head, Argument}
 use Rattle.sv_names.specs.declared.checked.Checked.{Checked}
@@ -134,16 +134,16 @@ items_in_implied (tree_type.Written w) = items_in w
 items_in_implied _ = []
 
 -- the items in a dimension
-abbrev pub items_in_dim : Option Dimension → List Entry
-items_in_dim (Some (tree_stmt.Key at w)) = items_in w
-items_in_dim d = []
+abbrev pub items_in_dimension : Option Dimension → List Entry
+items_in_dimension (Some (tree_stmt.Key at w)) = items_in w
+items_in_dimension d = []
 
 -- ---- variables
 
 -- the names of one declaration
 abbrev pub declarator_entries : (WrittenType → Option Dimension → Declared) → WrittenType → List Declarator → List Entry
 declarator_entries f w [] = []
-declarator_entries f w (x ∷ xs) = items_in_dim x.dim ++ entry x.name (f w x.dim) ∷ declarator_entries f w xs
+declarator_entries f w (x ∷ xs) = items_in_dimension x.dimension ++ entry x.name (f w x.dimension) ∷ declarator_entries f w xs
 
 -- whether a variable or subroutine is automatic
 abbrev pub is_automatic_life : Bool → Life → Bool
@@ -158,7 +158,7 @@ variable_kind false w d = A_variable w d
 
 -- the declarations of a block or subroutine
 abbrev pub decl_entries : (is_automatic : Bool) → Decl → List Entry
-decl_entries auto d = items_in d.type ++ declarator_entries (variable_kind (is_automatic_life auto d.life)) d.type d.names
+decl_entries auto d = items_in d.of ++ declarator_entries (variable_kind (is_automatic_life auto d.life)) d.of d.names
 
 -- ---- arguments
 
@@ -188,8 +188,8 @@ type_or b before t = t
 abbrev pub taken_from : Direction → ImpliedType → List Argument → List Taken
 taken_from d t [] = []
 taken_from d t (a ∷ as') =
-    record { direction = direction_or d a.direction; type = type_or (has_direction a.direction) t a.type; argument = a }
-    ∷ taken_from (direction_or d a.direction) (type_or (has_direction a.direction) t a.type) as'
+    record { direction = direction_or d a.direction; type = type_or (has_direction a.direction) t a.of; argument = a }
+    ∷ taken_from (direction_or d a.direction) (type_or (has_direction a.direction) t a.of) as'
 
 -- the arguments of a head
 abbrev pub taken : Head → List Taken
@@ -198,7 +198,8 @@ taken h = taken_from direction.Input tree_type.Unwritten h.arguments
 -- the arguments as declarations
 abbrev pub argument_entries : Bool → List Taken → List Entry
 argument_entries auto [] = []
-argument_entries auto (a ∷ as') = items_in_implied a.argument.type ++ entry a.argument.name (An_argument a.type auto) ∷ argument_entries auto as'
+argument_entries auto (a ∷ as') =
+    items_in_implied a.argument.of ++ entry a.argument.name (An_argument a.type auto) ∷ argument_entries auto as'
 
 -- ---- the named blocks of statements
 
@@ -209,14 +210,17 @@ block_named None (Some n) = entry n Another ∷ []
 block_named None None = []
 
 abbrev mutual
+  -- those of a statement
   pub blocks : tree_stmt.Stmt → List Entry
   blocks (tree_stmt.Statement at label b) = blocks_in label b
 
-  pub blocks_of_arms : tree_stmt.CaseItems → List Entry
-  blocks_of_arms tree_stmt.NoCaseItem = []
-  blocks_of_arms (tree_stmt.Labels es x rest) = blocks x ++ blocks_of_arms rest
-  blocks_of_arms (tree_stmt.Default x rest) = blocks x ++ blocks_of_arms rest
+  -- those of the items of a `case`
+  pub blocks_of_items : tree_stmt.CaseItems → List Entry
+  blocks_of_items tree_stmt.NoCaseItem = []
+  blocks_of_items (tree_stmt.Labels es x rest) = blocks x ++ blocks_of_items rest
+  blocks_of_items (tree_stmt.Default x rest) = blocks x ++ blocks_of_items rest
 
+  -- those of statements
   pub blocks_of : tree_stmt.Stmts → List Entry
   blocks_of tree_stmt.NoStmt = []
   blocks_of (tree_stmt.AndStmt x xs) = blocks x ++ blocks_of xs
@@ -227,7 +231,7 @@ abbrev mutual
   blocks_in label (tree_stmt.Fork n ds xs j e) = block_named n label
   blocks_in label (tree_stmt.If e x) = blocks x
   blocks_in label (tree_stmt.IfElse e x y) = blocks x ++ blocks y
-  blocks_in label (tree_stmt.Case w e as') = blocks_of_arms as'
+  blocks_in label (tree_stmt.Case w e is) = blocks_of_items is
   blocks_in label (tree_stmt.For (tree_stmt.ForInit.Assign l v) e s x) = blocks x
   blocks_in label (tree_stmt.While e x) = blocks x
   blocks_in label (tree_stmt.Do x e) = blocks x
@@ -262,9 +266,29 @@ abbrev pub object_entry : Bool → Head → Option Path → List Entry
 object_entry static h None = []
 object_entry static h (Some k) = if static then [] else entry (this_name h.name.at) (The_object_of k) ∷ []
 
+-- whether it is a task
+abbrev pub is_task : Head → Bool
+is_task h = of_returns h.returns
+  where
+    of_returns : tree_unit.Returns → Bool
+    of_returns tree_unit.Task = true
+    of_returns r = false
+
+-- the type of the result; a task and a void function have none that is written
+abbrev pub result_type : Head → ImpliedType
+result_type h = of_returns h.returns
+  where
+    of_returns : tree_unit.Returns → ImpliedType
+    of_returns (tree_unit.Returns.Value t) = t
+    of_returns r = tree_type.Unwritten
+
 -- a function has its own name as its result variable
 abbrev pub has_result : Head → Bool
-has_result h = not (h.is_task || h.is_void || is_constructor h)
+has_result h = of_returns h.returns
+  where
+    of_returns : tree_unit.Returns → Bool
+    of_returns (tree_unit.Returns.Value t) = not (is_constructor h)
+    of_returns r = false
 
 -- methods are automatic
 abbrev pub subroutine_is_automatic : Bool → Option Path → Head → Bool
@@ -275,8 +299,8 @@ subroutine_is_automatic usual (Some k) h = true
 abbrev pub subroutine_entries : (usual : Bool) → Qualifiers → Option Path → tree_unit.Routine → List Entry
 subroutine_entries usual q k r =
     let auto : Bool = subroutine_is_automatic usual k r.head in
-    object_entry (is_static_method q r.head) r.head k ++ items_in_implied r.head.type ++ argument_entries auto (taken r.head) ++ flat_map (decl_entries auto) r.decls
-    ++ blocks_of r.body
+    object_entry (is_static_method q r.head) r.head k ++ items_in_implied (result_type r.head) ++ argument_entries auto (taken r.head)
+    ++ flat_map (decl_entries auto) r.decls ++ blocks_of r.stmts
 
 -- ---- classes
 
@@ -294,14 +318,16 @@ pure_qualifiers = record { is_local = false; is_protected = false; is_static = f
 
 -- a head without statements
 abbrev pub pure_routine : Head → tree_unit.Routine
-pure_routine h = record { head = h; decls = []; body = tree_stmt.NoStmt; label = None }
+pure_routine h = record { head = h; decls = []; stmts = tree_stmt.NoStmt; label = None }
 
 -- what an item of a class declares
 abbrev pub class_item_entries : Path → tree_class.ClassItem → List Entry
-class_item_entries k (tree_class.Property q d) = items_in d.type ++ declarator_entries (property_kind k q) d.type d.names
-class_item_entries k (tree_class.Method q r) = entry r.head.name (A_subroutine q false (Some k) r) ∷ []
-class_item_entries k (tree_class.Pure at h) = entry h.name (A_subroutine pure_qualifiers true (Some k) (pure_routine h)) ∷ []
-class_item_entries k (tree_class.Typedef w n) = items_in w ++ entry n (A_type w) ∷ []
+class_item_entries k (tree_class.Property p) =
+    items_in p.decl.of ++ declarator_entries (property_kind k p.qualifiers) p.decl.of p.decl.names
+class_item_entries k (tree_class.Method m) = entry m.routine.head.name (A_subroutine m.qualifiers false (Some k) m.routine) ∷ []
+class_item_entries k (tree_class.Pure m) =
+    entry m.head.name (A_subroutine pure_qualifiers true (Some k) (pure_routine m.head)) ∷ []
+class_item_entries k (tree_class.Typedef t) = items_in t.of ++ entry t.name (A_type t.of) ∷ []
 class_item_entries k (tree_class.Announce n) = entry n An_announcement ∷ []
 class_item_entries k tree_class.Null = []
 

@@ -16,22 +16,22 @@ use Rattle.sv_names.specs.declared.checked.Fault.{Fault}
 use Rattle.sv_names.specs.declared.checked.Checked.{Checked}
 use Rattle.sv_names.specs.declared.checked.Checked.TheVariants.{Good, Broken}
 use Rattle.sv_names.specs.declared.ty.Ty.{Ty}
-use Rattle.sv_names.specs.declared.ty.Ty.TheVariants.{Vector as Bit_vector, Text, Event, Semaphore, Mailbox, Null}
+use Rattle.sv_names.specs.declared.ty.Ty.TheVariants.{Vector as Bit_vector, Text, Event, Class, Semaphore, Mailbox, Null}
 use Rattle.sv_names.specs.declared.typed.Typed.{Typed}
 use Rattle.sv_names.specs.declared.named.Named.{Named}
 use Rattle.sv_names.specs.declared.named.Named.TheVariants.{TypeName as Type_name, ClassName as Class_name}
 use Rattle.sv_names.specs.Literals.{text_of}
 use Rattle.sv_names.specs.Checked.{both, ◌▷◌, given, broken_at, ◌where_also◌, only, also_broken}
-use Rattle.sv_names.specs.Types.{is_integral, is_container, selectable, plain_vector, int_type, width_of_type, sign_of_type, is_four_state, integral, integral_or, same_bytes, among, whole, data_of}
+use Rattle.sv_names.specs.Types.{is_integral, is_container, selectable, plain_vector, int_type, width_of_type, is_four_state, integral, same_bytes, whole}
 use Rattle.sv_names.specs.Hoisted.{pure, mapped}
-use Rattle.sv_names.specs.Named.{Around, meaning, found, names_type, told_at, in_turn, behind, raised, hidden_in}
+use Rattle.sv_names.specs.Named.{Around, meaning, found, names_type, told_at, in_turn, behind}
 use Rattle.sv_names.specs.Values.{value_typed, number_operand, constant_count}
 use Rattle.sv_names.specs.Operators.{Placed, literal_typed, ticks_in, time_typed, unary_typed, kind_of, decides_early, binary_of, choose_of, joinable, join_of, repeat_of, cast_to, sized, vector_word_four_state, atom_type}
 use Rattle.sv_names.specs.Selects.{select_of, part_select_of}
 use Rattle.sv_names.specs.Targets.{Spot, concatenated, may_begin, hidden_in_target}
 use Rattle.sv_names.specs.Formats.{Arg, sformatf, values_stand}
 use Rattle.sv_names.specs.Calls.{Called, as_value, cast_called}
-use Rattle.sv_names.specs.Things.{Thing, A_value, A_type, Its_result, root_thing, thing_value, after_dot, after_actuals, and_behind, dollar_in, thing_target, called_thing, hidden_before}
+use Rattle.sv_names.specs.Things.{Thing, A_value, Its_result, root_thing, named_thing, thing_value, after_dot, after_actuals, and_behind, dollar_in, thing_target, called_thing, hidden_before}
 
 -- ---- system names
 
@@ -148,18 +148,18 @@ system_value ar at t as' Unknown = broken_at 55 at where_also values_stand as'
 system_value ar at t as' task = broken_at 32 at
 
 -- the type that the first argument names
-abbrev pub first_type : Around → tree.Exprs → Option (Checked Ty)
-first_type ar tree.NoExpr = None
-first_type ar (tree.AndExpr e es) = type_in ar e
+abbrev pub first_type : Around → tree.Actuals → Option (Checked Ty)
+first_type ar (tree.Written (tree.AndExpr e es)) = type_in ar e
+first_type ar a = None
 
 -- ---- casts
 
 -- a cast to a named type, or to a constant width
 abbrev pub cast_by_name : Around → Place → Place → Place → Named → Checked Typed → Checked Typed
 cast_by_name ar pe pn at (Type_name t) e = e ▷ cast_to ar t pe at
-cast_by_name ar pe pn at (Class_name k) e = e ▷ cast_to ar (Rattle.sv_names.specs.declared.ty.Ty.TheVariants.Class k) pe at
+cast_by_name ar pe pn at (Class_name k) e = e ▷ cast_to ar (Class k) pe at
 cast_by_name ar pe pn at n e =
-    both (Rattle.sv_names.specs.Things.named_thing ar pn n ▷ thing_value ar pn ▷ constant_count pn) e ▷ (λ p. sized pe at p.0 p.1)
+    both (named_thing ar pn n ▷ thing_value ar pn ▷ constant_count pn) e ▷ (λ p. sized pe at p.0 p.1)
 
 -- a cast by what it is to
 abbrev pub cast_of : Around → CastType → Place → Place → Checked Typed → Checked Typed
@@ -197,9 +197,13 @@ if_broken th next go = go next
 abbrev pub without_calls : Around → Around
 without_calls ar = record ar { call_rule = Some 24 }
 
--- in an index
+-- where `$` stands for this
 abbrev pub with_dollar : Dollar → Around → Around
 with_dollar d ar = record ar { dollar = d }
+
+-- in an index, behind what is indexed
+abbrev pub in_index : Checked Thing → Typed → Around → Around
+in_index th t ar = behind (length t.code.hidden) (with_dollar (dollar_in th) ar)
 
 -- E7: `$` stands in the index of a queue
 abbrev pub dollar_typed : Place → Dollar → Checked Typed
@@ -232,6 +236,7 @@ as_concatenation at None = None
 as_concatenation at (Some c) = Some (c ▷ concatenated at)
 
 abbrev mutual
+  -- an expression, with its type
   pub expr : Around → tree.Expr → Checked Typed
   expr ar (tree.Number at text) = Good (literal_typed at text)
   expr ar (tree.Time at text) = given (time_typed ar.scale at) (ticks_in ar.scale at text)
@@ -240,8 +245,8 @@ abbrev mutual
   expr ar (tree.Dollar at) = dollar_typed at ar.dollar
   expr ar (tree.Group at e) = expr ar e
   expr ar (tree.Post r s) = things ar (place_of_root r) (root_thing ar r) s ▷ thing_value ar (place_of_root r)
-  expr ar (tree.System n a) = system_value ar n.at (first_type ar es) (args ar es) (system_of n)
-  expr ar (tree.SuperNew at new a) = both (broken_at 38 at) (placed ar es) ▷ (λ p. p.0)
+  expr ar (tree.System n a) = system_value ar n.at (first_type ar a) (actual_args ar a) (system_of n)
+  expr ar (tree.SuperNew at new a) = both (broken_at 38 at) (placed_actuals ar a) ▷ (λ p. p.0)
   expr ar (tree.Join at es) = placed ar es ▷ join_of at
   expr ar (tree.Repeat at n inner es) =
       repeat_of at (expr ar n ▷ constant_count (place_of n)) (placed ar es ▷ join_of inner)
@@ -252,13 +257,18 @@ abbrev mutual
       binary_of ar (kind_of op) at (place_of a) (place_of b) x (expr (behind n (if decides_early op then without_calls ar else ar)) b))
   expr ar (tree.Choose c a b) =
       in_turn (expr ar c) (λ x n. in_turn (expr (behind n (without_calls ar)) a) (λ y m.
-      choose_of ar (place_of c) (place_of a) (place_of b) x y (expr (behind (n + m) (without_calls ar)) b)))
+      choose_of ar (place_of c) (place_of a) (place_of b) x y (expr (behind m (behind n (without_calls ar))) b)))
 
   -- the parts of a concatenation
   pub placed : Around → tree.Exprs → Checked (List Placed)
   placed ar tree.NoExpr = Good []
   placed ar (tree.AndExpr e es) =
       in_turn (expr ar e) (λ x n. given (λ p. (place_of e, p.0) ∷ p.1) (both (x ▷ joinable (place_of e)) (placed (behind n ar) es)))
+
+  -- the same, where brackets are written
+  pub placed_actuals : Around → tree.Actuals → Checked (List Placed)
+  placed_actuals ar tree.Unwritten = Good []
+  placed_actuals ar (tree.Written es) = placed ar es
 
   -- the arguments of a call
   pub args : Around → tree.Exprs → List Arg
@@ -271,24 +281,29 @@ abbrev mutual
         target = λ h n. target_in h (behind n ar) e;
       } ∷ args ar es
 
+  -- the same, where brackets are written
+  pub actual_args : Around → tree.Actuals → List Arg
+  actual_args ar tree.Unwritten = []
+  actual_args ar (tree.Written es) = args ar es
+
   -- what follows a name, from the left; the place is that of the expression
   pub things : Around → Place → Checked Thing → tree.Suffixes → Checked Thing
   things ar pe th tree.NoSuffix = th
   things ar pe th (tree.Member n rest) = things ar pe (th ▷ after_dot ar pe n) rest
   things ar pe th (tree.Call at es rest) =
-      things ar pe (and_behind (th ▷ after_actuals ar pe (args (behind (hidden_before th) ar) es)) th (λ _. values_stand (args ar es))) rest
+      things ar pe
+      (and_behind (th ▷ after_actuals ar pe (args (behind (hidden_before th) ar) es)) th (λ _. values_stand (args ar es)))
+      rest
   things ar pe th (tree.Select at i rest) =
       things ar pe
-      (and_behind
-      (given A_value (th ▷ thing_value ar pe ▷ (λ t. select_of ar at (place_of i) t (expr (behind (length t.code.hidden) (with_dollar (dollar_in th) ar)) i))))
+      (and_behind (given A_value (th ▷ thing_value ar pe ▷ (λ t. select_of ar at (place_of i) t (expr (in_index th t ar) i))))
       th (λ _. only (expr (with_dollar (dollar_in th) ar) i)))
       rest
   things ar pe th (tree.Part at w l r rest) =
       things ar pe
       (and_behind
       (given A_value (th ▷ thing_value ar pe ▷ (λ t.
-      part_select_of w at pe (place_of l) (place_of r) t
-      (expr (behind (length t.code.hidden) (with_dollar (dollar_in th) ar)) l) (expr (behind (length t.code.hidden) (with_dollar (dollar_in th) ar)) r))))
+      part_select_of w at pe (place_of l) (place_of r) t (expr (in_index th t ar) l) (expr (in_index th t ar) r))))
       th (λ _. only (both (expr (with_dollar (dollar_in th) ar) l) (expr (with_dollar (dollar_in th) ar) r))))
       rest
 
@@ -296,9 +311,11 @@ abbrev mutual
   pub before_select : Around → Place → Checked Thing → tree.Suffixes → Option Typed
   before_select ar pe th tree.NoSuffix = None
   before_select ar pe th (tree.Member n rest) = before_select ar pe (th ▷ after_dot ar pe n) rest
-  before_select ar pe th (tree.Call at es rest) = before_select ar pe (th ▷ after_actuals ar pe (args (behind (hidden_before th) ar) es)) rest
+  before_select ar pe th (tree.Call at es rest) =
+      before_select ar pe (th ▷ after_actuals ar pe (args (behind (hidden_before th) ar) es)) rest
   before_select ar pe th (tree.Select at i rest) =
-      if_broken th (given A_value (th ▷ thing_value ar pe ▷ (λ t. select_of ar at (place_of i) t (expr (with_dollar (dollar_in th) ar) i))))
+      if_broken th
+      (given A_value (th ▷ thing_value ar pe ▷ (λ t. select_of ar at (place_of i) t (expr (with_dollar (dollar_in th) ar) i))))
       (λ next. before_select ar pe next rest)
   before_select ar pe th (tree.Part at w l r rest) =
       if_broken th
@@ -314,6 +331,7 @@ abbrev mutual
   target_in h ar (tree.Join at es) = as_concatenation at (targets_in h ar es)
   target_in h ar e = None
 
+  -- the parts of a concatenation as targets
   pub targets_in : How → Around → tree.Exprs → Option (Checked (List Spot))
   targets_in h ar tree.NoExpr = Some (Good [])
   targets_in h ar (tree.AndExpr e es) = spots_in_turn (target_in h ar e) (λ n. targets_in h (behind n ar) es)
@@ -321,10 +339,12 @@ abbrev mutual
 -- ---- targets as they are written
 
 abbrev mutual
+  -- a target as an expression
   pub as_expr : tree.Lval → tree.Expr
   as_expr (tree.Lval.Post r s) = tree.Post r s
   as_expr (tree.Lval.Join at ls) = tree.Join at (as_exprs ls)
 
+  -- the parts of a concatenation as expressions
   pub as_exprs : tree.Lvals → tree.Exprs
   as_exprs tree.NoLval = tree.NoExpr
   as_exprs (tree.AndLval l ls) = tree.AndExpr (as_expr l) (as_exprs ls)

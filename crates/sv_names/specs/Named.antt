@@ -3,12 +3,7 @@ use Rattle.std.specs.Prelude.{ℕ, zero, suc, ◌+◌, Bool, true, false, not, �
 use Rattle.sv_value.specs.declared.place.Place.{Place}
 use Rattle.sv_flat.specs.declared.design.Scale.{Scale}
 use Rattle.sv_flat.specs.declared.object.DataType.{DataType}
-use Rattle.sv_flat.specs.declared.target.Base.{Base}
-use Rattle.sv_flat.specs.declared.target.Part.{Part}
-use Rattle.sv_flat.specs.Expr as flat
 use Rattle.sv_tree.specs.declared.word.Name.{Name}
-use Rattle.sv_tree.specs.declared.word.Direction.{Direction}
-use Rattle.sv_tree.specs.Units as tree_unit
 use Rattle.sv_names.specs.declared.around.ClassInfo.{ClassInfo}
 use Rattle.sv_names.specs.declared.around.Returns.{Returns}
 use Rattle.sv_names.specs.declared.around.Dollar.{Dollar}
@@ -25,7 +20,6 @@ use Rattle.sv_names.specs.declared.scope.Scope.{Scope}
 use Rattle.sv_names.specs.declared.checked.Fault.{Fault}
 use Rattle.sv_names.specs.declared.checked.Checked.{Checked}
 use Rattle.sv_names.specs.declared.checked.Checked.TheVariants.{Good, Broken}
-use Rattle.sv_names.specs.declared.ty.Ty.{Ty}
 use Rattle.sv_names.specs.declared.hoisted.Hoisted.{Hoisted}
 use Rattle.sv_names.specs.Checked.{broken_at, rule, fine, same_place}
 use Rattle.sv_names.specs.Types.{Path, Numbers, same_bytes, same_path, size_of_type}

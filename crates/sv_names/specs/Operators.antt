@@ -27,7 +27,7 @@ use Rattle.sv_names.specs.declared.checked.Checked.TheVariants.{Good}
 use Rattle.sv_names.specs.declared.ty.Ty.{Ty}
 use Rattle.sv_names.specs.declared.ty.Ty.TheVariants.{Vector as Bit_vector, Enum, Text}
 use Rattle.sv_names.specs.declared.typed.Typed.{Typed}
-use Rattle.sv_names.specs.Checked.{both, ◌▷◌, given, broken_at, rule, ◌where_also◌, all, fine, unless}
+use Rattle.sv_names.specs.Checked.{both, ◌▷◌, given, broken_at, rule, all, fine, unless}
 use Rattle.sv_names.specs.Types.{is_integral, is_text, is_array, is_reference, same_enum, integral, width_of_type, sign_of_type, is_four_state, plain_vector, selectable}
 use Rattle.sv_names.specs.Hoisted.{pure, mapped, paired, three}
 use Rattle.sv_digits.specs.declared.literal.Number.{Number}

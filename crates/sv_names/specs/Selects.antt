@@ -22,7 +22,7 @@ use Rattle.sv_names.specs.declared.typed.Typed.{Typed}
 use Rattle.sv_names.specs.declared.typed.Target.{Target}
 use Rattle.sv_names.specs.Checked.{both, ◌▷◌, given, broken_at, rule, ◌where_also◌}
 use Rattle.sv_names.specs.Types.{is_integral, is_text, is_array, is_container, bounds_of, is_four_state, plain_vector, item_of, plain_of, as_type}
-use Rattle.sv_names.specs.Hoisted.{pure, mapped, paired}
+use Rattle.sv_names.specs.Hoisted.{pure, paired}
 use Rattle.sv_names.specs.Named.{Around}
 use Rattle.sv_names.specs.Values.{value_typed, number_index, constant_number, constant_count, not_too_wide, alone, exactly}
 

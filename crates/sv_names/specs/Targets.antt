@@ -14,7 +14,7 @@ use Rattle.sv_names.specs.declared.typed.Begin.TheVariants.{Variable as A_variab
 use Rattle.sv_names.specs.declared.typed.Typed.{Typed}
 use Rattle.sv_names.specs.Checked.{◌▷◌, broken_at, rule, fine, ◌where_also◌, all, only}
 use Rattle.sv_names.specs.Types.{is_integral, is_array, is_fixed, width_of_type, plain_vector, data_of}
-use Rattle.sv_names.specs.Hoisted.{pure, paired, three, in_row, mapped}
+use Rattle.sv_names.specs.Hoisted.{pure, paired, in_row, mapped}
 use Rattle.sv_names.specs.Named.{Around}
 use Rattle.sv_names.specs.Values.{not_too_wide, value_typed, assigned}
 

@@ -19,7 +19,7 @@ use Rattle.sv_names.specs.declared.typed.Target.{Target}
 use Rattle.sv_names.specs.declared.typed.Begin.TheVariants.{Value as A_value}
 use Rattle.sv_names.specs.Checked.{◌▷◌, given, broken_at, rule}
 use Rattle.sv_names.specs.Types.{is_integral, is_text, is_array, is_container, is_sync, is_null, is_enum, same_enum, same_type, width_of_type, sign_of_type, Path}
-use Rattle.sv_names.specs.Hoisted.{pure, mapped}
+use Rattle.sv_names.specs.Hoisted.{mapped}
 use Rattle.sv_names.specs.Named.{Around, is_derived}
 
 -- ---- expressions that are no targets
