@@ -18,9 +18,9 @@ use Rattle.sv_tree.specs.declared.word.BinaryWord.{BinaryWord}
 use Rattle.sv_tree.specs.declared.word.BinaryWord.TheVariants as binary
 use Rattle.sv_tree.specs.declared.expr.Root.TheVariants as root
 use Rattle.sv_tree.specs.Expr as tree
-use Rattle.sv_tree.specs.Expr.{place_of}
+use Rattle.sv_tree.specs.Expr.{place_of, place_of_root}
 use Rattle.sv_tree.specs.Stmt as tree_stmt
-use Rattle.sv_tree.specs.Stmt.{Init, Delay}
+use Rattle.sv_tree.specs.Stmt.{Init, Delay, BlockingAssignment, NonblockingAssignment, OperatorAssignment}
 use Rattle.sv_names.specs.declared.typed.How.{How}
 use Rattle.sv_names.specs.declared.typed.How.TheVariants.{Statement as By_statement, Nonblocking, Drive}
 use Rattle.sv_names.specs.declared.around.ClassInfo.{ClassInfo}
@@ -32,21 +32,19 @@ use Rattle.sv_names.specs.declared.hoisted.Hoisted.{Hoisted}
 use Rattle.sv_names.specs.declared.typed.Typed.{Typed}
 use Rattle.sv_names.specs.declared.named.Named.{Named}
 use Rattle.sv_names.specs.declared.named.Named.TheVariants.{Subroutine}
-use Rattle.sv_names.specs.declared.named.Callee.{Callee}
-use Rattle.sv_names.specs.declared.named.Formal.{Formal}
-use Rattle.sv_names.specs.declared.typed.Begin.TheVariants.{Signal as A_signal}
+use Rattle.sv_names.specs.declared.typed.Begin.TheVariants.{Signal as A_signal, Value as A_value}
 use Rattle.sv_names.specs.declared.typed.Begin.{Begin}
 use Rattle.sv_names.specs.Checked.{both, ◌▷◌, given, broken_at, rule, fine, ◌where_also◌, only, also_broken}
 use Rattle.sv_names.specs.Types.{Path, int_type, longint_type, is_container, is_fixed, is_sync, is_dynamic, same_type, item_of, data_of, plain_of}
 use Rattle.sv_names.specs.Hoisted.{pure, mapped, paired, three, in_row, if_any, result_of}
-use Rattle.sv_names.specs.Named.{Around, class_in, in_known, is_derived, meaning, in_turn, behind, raised, hidden_in}
+use Rattle.sv_names.specs.Named.{Around, class_in, in_known, is_derived, in_turn, behind}
 use Rattle.sv_names.specs.Values.{value_typed, assigned, exactly, alone}
 use Rattle.sv_names.specs.Operators.{kind_of, binary_of, ticks_in, literal_typed}
 use Rattle.sv_names.specs.Selects.{container_of}
 use Rattle.sv_names.specs.Targets.{Spot, lvalues, type_of_target, read_of, beside, hidden_of_spots, hidden_in_target}
 use Rattle.sv_names.specs.Formats.{Arg, values_stand}
 use Rattle.sv_names.specs.Calls.{arguments, call_stands, wait_stands, may_be_named}
-use Rattle.sv_names.specs.Expressions.{expr, args, target, number_in}
+use Rattle.sv_names.specs.Expressions.{expr, actual_args, target, number_in}
 
 -- ---- delays
 
@@ -66,7 +64,8 @@ pub record Amount : Type 0 where
 -- a time literal alone counts ticks
 abbrev pub amount_of : Around → tree.Expr → Checked Amount
 amount_of ar (tree.Time at text) =
-    given (λ n. record { amount = pure (flat.Literal (vector false (symbols_of 64 n 0)) None); in_ticks = true }) (ticks_in ar.scale at text)
+    given (λ n. record { amount = pure (flat.Literal (vector false (symbols_of 64 n 0)) None); in_ticks = true })
+    (ticks_in ar.scale at text)
 amount_of ar e = given (λ t. record { amount = alone t; in_ticks = false }) (number_in ar e)
 
 -- E27
@@ -74,6 +73,7 @@ abbrev pub delay_of : Around → Option Delay → Checked (Option Amount)
 delay_of ar None = Good None
 delay_of ar (Some d) = given Some (amount_of ar d.amount) where_also wait_stands ar d.at
 
+-- E28: what stands after an `=` is a timing control too
 abbrev pub timed : Around → Option Delay → Checked (Unit {0})
 timed ar None = fine
 timed ar (Some d) = timing_stands ar
@@ -92,7 +92,8 @@ copy_form (Some d) t e = broken_at 42 t.at
 
 -- a value for a target: a container is copied, all else is written
 abbrev pub given_to : Around → Option Amount → List Spot → Hoisted flat.Expr → Checked (Hoisted Form)
-given_to ar d (s ∷ []) e = if is_container s.1.ty then copy_form d s.1 e else Good (assign_form d (lvalues ar (s ∷ [])) e)
+given_to ar d (s ∷ []) e =
+    if is_container s.1.ty then copy_form d s.1 e else Good (assign_form d (lvalues ar (s ∷ [])) e)
 given_to ar d ss e = Good (assign_form d (lvalues ar ss) e)
 
 -- E16, E17: a value that is given to a target
@@ -112,7 +113,8 @@ constructor_in k = in_known 0 0 (codes "new") k.scope.known
 
 -- E31, E37: the arguments of a constructor
 abbrev pub with_constructor : Around → Place → Path → List Arg → Option (Checked Named) → Checked (List (Hoisted Argument))
-with_constructor ar at k as' (Some (Good (Subroutine c))) = arguments ar at 0 c.formals as' where_also may_be_named ar c.protection k at
+with_constructor ar at k as' (Some (Good (Subroutine c))) =
+    arguments ar at 0 c.formals as' where_also may_be_named ar c.protection k at
 with_constructor ar at k as' (Some (Broken f)) = Broken f
 with_constructor ar at k as' c = arguments ar at 0 [] as'
 
@@ -131,10 +133,14 @@ bound_given ar at as' = broken_at 31 at where_also values_stand as'
 
 -- what `new` makes for a target of a type, in a hidden variable
 abbrev pub made : Around → Place → List Spot → List Arg → Ty → Checked (Hoisted flat.Expr)
-made ar at ss as' (Class p) = given (result_of ar.first (data_of ar.numbers (Class p))) (constructed ar at p as' (class_in ar.classes p))
-made ar at ss as' Mailbox = given (λ n. result_of ar.first (data_of ar.numbers Mailbox) (mapped call.NewMailbox n)) (bound_given ar at as')
-made ar at ss as' (MailboxOf t) = given (λ n. result_of ar.first (data_of ar.numbers Mailbox) (mapped call.NewMailbox n)) (bound_given ar at as')
-made ar at ss as' Semaphore = given (λ n. result_of ar.first (data_of ar.numbers Semaphore) (mapped call.NewSemaphore n)) (bound_given ar at as')
+made ar at ss as' (Class p) =
+    given (result_of ar.first (data_of ar.numbers (Class p))) (constructed ar at p as' (class_in ar.classes p))
+made ar at ss as' Mailbox =
+    given (λ n. result_of ar.first (data_of ar.numbers Mailbox) (mapped call.NewMailbox n)) (bound_given ar at as')
+made ar at ss as' (MailboxOf t) =
+    given (λ n. result_of ar.first (data_of ar.numbers Mailbox) (mapped call.NewMailbox n)) (bound_given ar at as')
+made ar at ss as' Semaphore =
+    given (λ n. result_of ar.first (data_of ar.numbers Semaphore) (mapped call.NewSemaphore n)) (bound_given ar at as')
 made ar at ss as' t = no_object at ss where_also values_stand as'
 
 -- E24, E25: `new` is a call
@@ -188,8 +194,7 @@ array_given ar d at n old ss =
 -- what it breaks by itself
 abbrev pub init_alone : Around → Init → Checked (Unit {0})
 init_alone ar (tree_stmt.Value e) = only (expr ar e)
-init_alone ar (tree_stmt.New at) = fine
-init_alone ar (tree_stmt.NewWith at es) = values_stand (args ar es)
+init_alone ar (tree_stmt.New at a) = values_stand (actual_args ar a)
 init_alone ar (tree_stmt.Copy at n) = only (expr ar (tree.Post (root.Plain n) tree.NoSuffix))
 init_alone ar (tree_stmt.Array at n None) = only (expr ar n)
 init_alone ar (tree_stmt.Array at n (Some e)) = only (both (expr ar n) (expr ar e))
@@ -197,8 +202,7 @@ init_alone ar (tree_stmt.Array at n (Some e)) = only (both (expr ar n) (expr ar 
 -- what is written behind the `=` of an assignment
 abbrev pub init_given : Around → Option Amount → List Spot → Init → Checked (Hoisted Form)
 init_given ar d ss (tree_stmt.Value e) = expr ar e ▷ value_given ar d (place_of e) ss
-init_given ar d ss (tree_stmt.New at) = new_given ar d at ss []
-init_given ar d ss (tree_stmt.NewWith at es) = new_given ar d at ss (args ar es)
+init_given ar d ss (tree_stmt.New at a) = new_given ar d at ss (actual_args ar a)
 init_given ar d ss (tree_stmt.Copy at n) = expr ar (tree.Post (root.Plain n) tree.NoSuffix) ▷ copy_given ar d at ss
 init_given ar d ss (tree_stmt.Array at n old) = array_given ar d at n old ss
 
@@ -222,6 +226,10 @@ given_behind ar t d i = given (λ p. pure form.Null) (both (both t d) (init_alon
 abbrev pub assignment : Around → Checked (List Spot) → Option Delay → Init → Checked (Hoisted Form)
 assignment ar t d i = given_behind ar t (delay_of (behind (hidden_in_target t) ar) d) i
 
+-- a blocking assignment (10.4.1)
+abbrev pub blocking : Around → BlockingAssignment → Checked (Hoisted Form)
+blocking ar a = assignment ar (target By_statement ar a.target) a.delay a.value
+
 -- ---- nonblocking assignments and drives
 
 -- a nonblocking assignment, with or without a delay
@@ -244,7 +252,7 @@ no_container c = fine
 -- what a target of one part begins with
 abbrev pub begin_of : List Spot → Begin
 begin_of (s ∷ []) = s.1.target.begins
-begin_of ss = Rattle.sv_names.specs.declared.typed.Begin.TheVariants.Value
+begin_of ss = A_value
 
 -- whether a target is no concatenation
 abbrev pub is_whole : tree.Lval → Bool
@@ -252,9 +260,9 @@ is_whole (tree.Lval.Post r s) = true
 is_whole (tree.Lval.Join at ls) = false
 
 -- a drive has no delay and no concatenation
-abbrev pub no_parts : Around → tree.Lval → Option Delay → How
-no_parts ar l None = if is_whole l then Drive else Nonblocking
-no_parts ar l (Some d) = Nonblocking
+abbrev pub no_parts : tree.Lval → Option Delay → How
+no_parts l None = if is_whole l then Drive else Nonblocking
+no_parts l (Some d) = Nonblocking
 
 -- how many hidden variables a target and a delay take
 abbrev pub hidden_before_value : Checked (List Spot) → Checked (Option Amount) → ℕ
@@ -272,9 +280,9 @@ later_behind ar t d e =
 abbrev pub later_to : Around → Checked (List Spot) → Option Delay → tree.Expr → Checked (Hoisted Form)
 later_to ar t d e = later_behind ar t (delay_of (behind (hidden_in_target t) ar) d) e
 
--- a nonblocking assignment: target, delay and value
-abbrev pub later : Around → tree.Lval → Option Delay → tree.Expr → Checked (Hoisted Form)
-later ar l d e = later_to ar (target (no_parts ar l d) ar l) d e
+-- a nonblocking assignment (10.4.2), or a drive (14.16)
+abbrev pub later : Around → NonblockingAssignment → Checked (Hoisted Form)
+later ar a = later_to ar (target (no_parts a.target a.delay) ar a.target) a.delay a.value
 
 -- ---- `a op= e`, `a++`
 
@@ -286,7 +294,7 @@ read_and_written ar pl pv w ss v =
 
 -- the first token of a target
 abbrev pub place_of_lval : tree.Lval → Place
-place_of_lval (tree.Lval.Post r s) = tree.place_of_root r
+place_of_lval (tree.Lval.Post r s) = place_of_root r
 place_of_lval (tree.Lval.Join at ls) = at
 
 -- an assignment with an operator; its value breaks rules beside its target
@@ -297,12 +305,16 @@ updated ar l w pv v = after (target By_statement ar l)
     after (Good ss) = read_and_written ar (place_of_lval l) pv w ss (v (behind (hidden_of_spots ss) ar))
     after (Broken f) = also_broken f (only (v ar))
 
+-- `a op= e` (11.4.1)
+abbrev pub operated : Around → OperatorAssignment → Checked (Hoisted Form)
+operated ar a = updated ar a.target a.word (place_of a.value) (λ i. expr i a.value)
+
 -- the operator of `++` and `--`
 abbrev pub step_word : StepWord → BinaryWord
 step_word Increment = binary.Plus
 step_word Decrement = binary.Minus
 
--- `a++` adds 1 of type int
+-- `a++` adds 1 of type int (11.4.2)
 abbrev pub stepped : Around → tree.Lval → StepWord → Checked (Hoisted Form)
 stepped ar l w =
     updated ar l (step_word w) (place_of_lval l) (λ i. Good (literal_typed (place_of_lval l) (codes "1")))
@@ -316,8 +328,7 @@ at_opening ar = record ar { is_initial = true; call_rule = Some 25; has_object =
 -- the first token of what initializes
 abbrev pub place_of_init : Init → Place
 place_of_init (tree_stmt.Value e) = place_of e
-place_of_init (tree_stmt.New at) = at
-place_of_init (tree_stmt.NewWith at es) = at
+place_of_init (tree_stmt.New at a) = at
 place_of_init (tree_stmt.Copy at n) = at
 place_of_init (tree_stmt.Array at e o) = at
 
@@ -345,8 +356,7 @@ abbrev pub initial_given : Around → Place → Ty → Init → Checked Initial
 initial_given ar at t (tree_stmt.Value e) =
     if is_fixed t then broken_at 42 at where_also only (expr ar e)
     else given (initial_value t) (expr ar e ▷ assigned ar t (place_of e))
-initial_given ar at t (tree_stmt.New p) = new_at_opening ar at t p []
-initial_given ar at t (tree_stmt.NewWith p es) = new_at_opening ar at t p (args ar es)
+initial_given ar at t (tree_stmt.New p a) = new_at_opening ar at t p (actual_args ar a)
 initial_given ar at t i = broken_at 25 (place_of_init i) where_also only (init_given ar None (at_name at t) i)
 
 -- the initializer of a static variable; it breaks rules beside its type

@@ -29,7 +29,7 @@ use Rattle.sv_names.specs.declared.named.Named.{Named}
 use Rattle.sv_names.specs.declared.named.Named.TheVariants.{Variable, Net, Input, Local, Property, StaticProperty as Static_property, Constant, TypeName as Type_name, ClassName as Class_name, Other}
 use Rattle.sv_names.specs.declared.named.Kind.TheVariants.{Constant as Of_constant}
 use Rattle.sv_names.specs.Checked.{both, ◌▷◌, given, broken_at, fine, ◌where_also◌, only, unless}
-use Rattle.sv_names.specs.Types.{Path, integral, integral_or, is_integral, is_text, is_class, is_four_state, width_of_type, plain_vector, int_type, whole, as_element, as_key}
+use Rattle.sv_names.specs.Types.{Path, integral, integral_or, is_integral, is_four_state, width_of_type, plain_vector, int_type, whole, as_element, as_key}
 use Rattle.sv_names.specs.Hoisted.{pure}
 use Rattle.sv_names.specs.Named.{Around, meaning, kind_stands, is_type_kind, nowhere_yet}
 use Rattle.sv_names.specs.Values.{value_typed, nowhere, vector_of, constant, constant_number, count_from, not_too_wide, exactly}
@@ -69,7 +69,15 @@ enum_on p at pb t = broken_at 7 pb
 
 -- E7: the items of an enum, in its own base
 abbrev pub without_items : Path → List EnumItem → Around → Around
-without_items p is ar = record ar { scopes = record { path = p; class = None; enters = false; known = map {A = EnumItem} (λ i. record { name = i.name; kind = Of_constant; value = broken_at 7 nowhere_yet }) is } ∷ ar.scopes }
+without_items p is ar =
+    record ar {
+      scopes = record {
+        path = p;
+        class = None;
+        enters = false;
+        known = map {A = EnumItem} (λ i. record { name = i.name; kind = Of_constant; value = broken_at 7 nowhere_yet }) is;
+      } ∷ ar.scopes;
+    }
 
 -- the first token of a type
 abbrev pub place_of_type : WrittenType → Place
@@ -141,26 +149,26 @@ sized_array ar e = given (λ n. Fixed (bounds (pos 0) (pos n -ℤ pos 1))) (boun
 abbrev pub keyed_array : Place → Ty → Checked (Element → Ty)
 keyed_array at k = given (λ x. Assoc x) (may_be_key at k)
 
--- a name alone names a type or a constant
-abbrev pub dim_named : Around → Name → Named → Checked (Element → Ty)
-dim_named ar n (Type_name t) = keyed_array n.at t
-dim_named ar n (Class_name p) = keyed_array n.at (Class p)
-dim_named ar n x = sized_array ar (tree.Post (root.Plain n) tree.NoSuffix)
+-- a name alone in brackets names a type or a constant
+abbrev pub dimension_named : Around → Name → Named → Checked (Element → Ty)
+dimension_named ar n (Type_name t) = keyed_array n.at t
+dimension_named ar n (Class_name p) = keyed_array n.at (Class p)
+dimension_named ar n x = sized_array ar (tree.Post (root.Plain n) tree.NoSuffix)
 
 -- what a dimension makes of a type
-abbrev pub dim_of : Around → Path → Dimension → Checked (Element → Ty)
-dim_of ar p (tree_stmt.Empty at) = Good (λ t. Dynamic t)
-dim_of ar p (tree_stmt.Size at e) = sized_array ar e
-dim_of ar p (tree_stmt.Bounds r) = given (λ q. Fixed (bounds q.0 q.1)) (both (bound ar r.left) (bound ar r.right))
-dim_of ar p (tree_stmt.Queue at) = Good (λ t. Queue t)
-dim_of ar p (tree_stmt.Key at w) = type_of ar p w ▷ keyed_array (place_of_type w)
-dim_of ar p (tree_stmt.Dimension.Named at n) = meaning ar n ▷ dim_named ar n
+abbrev pub dimension_of : Around → Path → Dimension → Checked (Element → Ty)
+dimension_of ar p (tree_stmt.Empty at) = Good (λ t. Dynamic t)
+dimension_of ar p (tree_stmt.Size at e) = sized_array ar e
+dimension_of ar p (tree_stmt.Bounds r) = given (λ q. Fixed (bounds q.0 q.1)) (both (bound ar r.left) (bound ar r.right))
+dimension_of ar p (tree_stmt.Queue at) = Good (λ t. Queue t)
+dimension_of ar p (tree_stmt.Key at w) = type_of ar p w ▷ keyed_array (place_of_type w)
+dimension_of ar p (tree_stmt.Dimension.Named at n) = meaning ar n ▷ dimension_named ar n
 
 -- the type of a declared variable
 abbrev pub declared_type : Around → Path → WrittenType → Option Dimension → Checked Ty
 declared_type ar p w None = type_of ar p w
 declared_type ar p w (Some d) =
-    given (λ q. q.1 q.0) (both (type_of ar p w ▷ may_be_item (place_of_type w)) (dim_of ar p d))
+    given (λ q. q.1 q.0) (both (type_of ar p w ▷ may_be_item (place_of_type w)) (dimension_of ar p d))
 
 -- ---- parameters
 
@@ -216,9 +224,13 @@ fits_in i (negsuc n) = i.signed && nat_lt n (2 ^ (i.width - 1))
 -- so many after a value
 abbrev pub item_number : Place → Integral → ℕ → Option ℤ → Vector → Checked Vector
 item_number at i steps (Some n) v =
-    if fits_in i n && fits_in i (n +ℤ pos steps) then Good (vector i.signed (integer_symbols i.width (n +ℤ pos steps))) else broken_at 56 at
+    if fits_in i n && fits_in i (n +ℤ pos steps)
+    then Good (vector i.signed (integer_symbols i.width (n +ℤ pos steps)))
+    else broken_at 56 at
 item_number at i steps None v =
-    if i.four_state && (steps == 0) then Good (vector_of (value_of (flat.Convert i (flat.Literal v None)) nowhere)) else broken_at 56 at
+    if i.four_state && (steps == 0)
+    then Good (vector_of (value_of (flat.Convert i (flat.Literal v None)) nowhere))
+    else broken_at 56 at
 
 -- a literal that fills its context fills the base
 abbrev pub in_base : Ty → Typed → Vector
@@ -275,7 +287,8 @@ value_of_entry ar s e (A_given t) = given (Local 0 0) t
 value_of_entry ar s e (A_net g r) = given (Net (s ++ e.name.text ∷ [])) (vector_type ar (is_signed false g) true r)
 value_of_entry ar s e (A_port i w t) = given (port_named i w (is_written t) (s ++ e.name.text ∷ [])) (implied ar s t)
 value_of_entry ar s e (A_property k g w d) = given (Property k g e.name) (declared_type ar s w d)
-value_of_entry ar s e (A_static_property k g w d) = given (Static_property k g (s ++ e.name.text ∷ [])) (declared_type ar s w d)
+value_of_entry ar s e (A_static_property k g w d) =
+    given (Static_property k g (s ++ e.name.text ∷ [])) (declared_type ar s w d)
 value_of_entry ar s e (A_parameter i v) = given (λ t. Constant t true) (parameter_value ar s i v)
 value_of_entry ar s e (A_type w) = given Type_name (type_of ar s w)
 value_of_entry ar s e (An_item w v n) = given (λ t. Constant t false) (item_value ar s e.name w v n)

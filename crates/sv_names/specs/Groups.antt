@@ -1,15 +1,16 @@
 -- The scope of a unit or of the files, settled together with those of its classes (IEEE 1800-2017, 8.13 and 23.9).
 use Rattle.std.specs.Prelude.{ℕ, zero, suc, ◌+◌, Bool, true, false, not, ◌&&◌, ◌||◌, List, [], ◌∷◌, ◌++◌, length, Option, Some, None, if◌then◌else◌, map}
 use Rattle.sv_tree.specs.declared.word.Name.{Name}
-use Rattle.sv_tree.specs.Units as tree_unit
-use Rattle.sv_tree.specs.Units.{Item}
+use Rattle.sv_tree.specs.Classes as tree_class
+use Rattle.sv_tree.specs.Items as tree_item
+use Rattle.sv_tree.specs.Items.{Item}
 use Rattle.sv_names.specs.declared.around.ClassInfo.{ClassInfo}
 use Rattle.sv_names.specs.declared.checked.Checked.{Checked}
 use Rattle.sv_names.specs.declared.scope.Scope.{Scope}
 use Rattle.sv_names.specs.declared.named.Named.{Named}
 use Rattle.sv_names.specs.Checked.{broken_at, rule, fine}
 use Rattle.sv_names.specs.Types.{Path, same_path, same_bytes, among}
-use Rattle.sv_names.specs.Named.{Around, line_of}
+use Rattle.sv_names.specs.Named.{Around, nearest, line_of}
 use Rattle.sv_names.specs.Entries.{Declared, Entry, A_class, An_announcement, class_entries, is_constructor}
 use Rattle.sv_names.specs.Rounds.{Row, rows_of, known_in, settled}
 use Rattle.sv_names.specs.Scopes.{scope_of, value_of_any}
@@ -31,20 +32,15 @@ class_of_entry x e = if same_bytes x e.name.text then of_what e.what else None
     of_what (A_class p) = Some (Some p)
     of_what d = Some None
 
--- the nearest declaration of a name, and the class that it is
-abbrev pub or_later : {A : Type 0} → Option A → Option A → Option A
-or_later None b = b
-or_later (Some a) b = Some a
-
 -- the first declaration of a name, and the class that it is
 abbrev pub class_among : List ℕ → List Entry → Option (Option Path)
 class_among x [] = None
-class_among x (e ∷ es) = or_later (class_of_entry x e) (class_among x es)
+class_among x (e ∷ es) = nearest (class_of_entry x e) (class_among x es)
 
 -- the class that the name of a base stands for
 abbrev pub raw_base : List Entry → List Entry → Option Name → Option Path
 raw_base own outer None = None
-raw_base own outer (Some n) = the_class (or_later (class_among n.text own) (class_among n.text outer))
+raw_base own outer (Some n) = the_class (nearest (class_among n.text own) (class_among n.text outer))
   where
     the_class : Option (Option Path) → Option Path
     the_class None = None
@@ -53,7 +49,7 @@ raw_base own outer (Some n) = the_class (or_later (class_among n.text own) (clas
 -- E6, E33: a class extends no class
 abbrev pub base_stands : List Entry → List Entry → Option Name → Checked (Unit {0})
 base_stands own outer None = fine
-base_stands own outer (Some n) = told (or_later (class_among n.text own) (class_among n.text outer))
+base_stands own outer (Some n) = told (nearest (class_among n.text own) (class_among n.text outer))
   where
     of_class : Option Path → Checked (Unit {0})
     of_class None = broken_at 33 n.at
@@ -101,9 +97,11 @@ not_cyclic hs h = at_base h.tree.base
 
 -- a further virtual method that an item declares
 abbrev pub virtual_name : List (List ℕ) → tree_class.ClassItem → List (List ℕ)
-virtual_name slots (tree_class.Method q r) =
-    if q.is_virtual && not (is_constructor r.head) && not (among r.head.name.text slots) then r.head.name.text ∷ [] else []
-virtual_name slots (tree_class.Pure at h) = if among h.name.text slots then [] else h.name.text ∷ []
+virtual_name slots (tree_class.Method m) =
+    if m.qualifiers.is_virtual && not (is_constructor m.routine.head) && not (among m.routine.head.name.text slots)
+    then m.routine.head.name.text ∷ []
+    else []
+virtual_name slots (tree_class.Pure m) = if among m.head.name.text slots then [] else m.head.name.text ∷ []
 virtual_name slots i = []
 
 -- the slots with those of further items
@@ -202,4 +200,5 @@ with_around ar g = (g, in_group g ar)
 -- a group with all that it declares
 abbrev pub settled_group : Around → Path → List Entry → List Head → Group
 settled_group ar p es hs =
-    group_of ar p hs (settled (λ rs. with_around ar (group_of ar p hs rs)) (evaluated false p) (evaluated true p) (rows_of 0 es ++ class_rows 1 hs))
+    group_of ar p hs
+    (settled (λ rs. with_around ar (group_of ar p hs rs)) (evaluated false p) (evaluated true p) (rows_of 0 es ++ class_rows 1 hs))

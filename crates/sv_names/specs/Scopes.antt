@@ -27,7 +27,7 @@ use Rattle.sv_names.specs.Named.{Around, class_in, meaning, kind_stands, is_obje
 use Rattle.sv_value.specs.Operators.{all_same}
 use Rattle.sv_names.specs.Values.{constant, constant_vector, assigned}
 use Rattle.sv_names.specs.Expressions.{expr}
-use Rattle.sv_names.specs.Entries.{Declared, Entry, A_local, An_argument, A_given, A_subroutine, A_clocking, The_object_of, Taken, taken, subroutine_entries, subroutine_is_automatic, is_static_method, has_result, protection_of}
+use Rattle.sv_names.specs.Entries.{Declared, Entry, A_local, An_argument, A_given, A_subroutine, A_clocking, The_object_of, Taken, taken, subroutine_entries, subroutine_is_automatic, is_static_method, is_task, has_result, result_type, protection_of}
 use Rattle.sv_names.specs.Rounds.{Row, rows_of, known_in, settled, known_rows}
 use Rattle.sv_names.specs.Declarations.{value_of_entry, implied}
 
@@ -46,7 +46,7 @@ abbrev pub makes_activation : List Entry → Bool
 makes_activation [] = false
 makes_activation (e ∷ es) = is_in_activation e.what || makes_activation es
 
--- with a scope in front
+-- within a further scope
 abbrev pub within : Scope → Around → Around
 within s ar = record ar { scopes = s ∷ ar.scopes }
 
@@ -64,7 +64,8 @@ of_row p ar r = value_of_entry ar p r.entry r.entry.what
 
 -- a scope with all that it declares
 abbrev pub settled_scope : Around → Path → Option Path → Bool → List Entry → Scope
-settled_scope ar p k enters es = scope_of p k enters (known_in 0 (settled (prepared ar p k enters) (of_row p) (of_row p) (rows_of 0 es)))
+settled_scope ar p k enters es =
+    scope_of p k enters (known_in 0 (settled (prepared ar p k enters) (of_row p) (of_row p) (rows_of 0 es)))
 
 -- the same, where what is around it may still wait
 abbrev pub first_scope : Around → Path → Option Path → Bool → List Entry → Scope
@@ -118,7 +119,8 @@ known_stand ks = all (λ k. name_stands k.value) ks where_also items_differ [] k
 -- E11, E16: a default is constant, and fits its argument
 abbrev pub default_of : Around → Checked Ty → tree.Expr → Checked Typed
 default_of ar t e =
-    both t (expr ar e ▷ constant (place_of e)) ▷ (λ p. assigned (record ar { takes_events = true }) p.0 (place_of e) p.1 ▷ (λ x. Good p.1))
+    both t (expr ar e ▷ constant (place_of e))
+    ▷ (λ p. assigned (record ar { takes_events = true }) p.0 (place_of e) p.1 ▷ (λ x. Good p.1))
 
 -- an argument in the scope of its subroutine
 abbrev pub formal_of : Around → Around → Path → Taken → Formal
@@ -135,7 +137,7 @@ abbrev pub result_of_head : Around → Path → Head → Checked Ty
 result_of_head inner p h = of_result (has_result h)
   where
     of_result : Bool → Checked Ty
-    of_result true = implied inner p h.type
+    of_result true = implied inner p (result_type h)
     of_result false = Good Nothing
 
 -- whether a method is virtual
@@ -153,7 +155,7 @@ callee_within ar s q is_pure k r =
     record {
       name = r.head.name;
       path = s.path;
-      is_task = r.head.is_task;
+      is_task = is_task r.head;
       result = result_of_head (within s ar) s.path r.head;
       formals = map (formal_of ar (within s ar) s.path) (taken r.head);
       class = k;
@@ -174,7 +176,8 @@ subroutine_enters ar q k r = subroutine_is_automatic ar.is_automatic k r.head ||
 -- the head of a subroutine, where what is around it may still wait
 abbrev pub callee_of : Around → Path → Qualifiers → Bool → Option Path → tree_unit.Routine → Callee
 callee_of ar s q is_pure k r =
-    callee_within ar (first_scope ar (s ++ r.head.name.text ∷ []) k (subroutine_enters ar q k r) (all_entries ar q k r)) q is_pure k r
+    callee_within ar (first_scope ar (s ++ r.head.name.text ∷ []) k (subroutine_enters ar q k r) (all_entries ar q k r))
+    q is_pure k r
 
 -- ---- the signals of clocking blocks
 
@@ -221,7 +224,8 @@ signal_of_named u s n ds x = broken_at 46 n.at
 -- the signals of an item (E46 also where a name needs itself)
 abbrev pub item_signals : Around → Path → tree_unit.ClockingItem → List (Checked SignalInfo)
 item_signals ar s (tree_unit.Default ds) = []
-item_signals ar s (tree_unit.Signals ds ns) = map (λ n. of_meaning n (meaning ar n where_also kind_stands ar 46 n.at is_object_kind n.text)) ns
+item_signals ar s (tree_unit.Signals ds ns) =
+    map (λ n. of_meaning n (meaning ar n where_also kind_stands ar 46 n.at is_object_kind n.text)) ns
   where
     of_meaning : Name → Checked Named → Checked SignalInfo
     of_meaning n (Good x) = signal_of_named ar.unit s n ds x
@@ -236,7 +240,8 @@ signals_in ar s is = flat_map (item_signals ar s) is
 -- the head of a subroutine, also where its own declarations need themselves
 abbrev pub last_callee : Around → Path → Qualifiers → Bool → Option Path → tree_unit.Routine → Callee
 last_callee ar s q is_pure k r =
-    callee_within ar (settled_scope ar (s ++ r.head.name.text ∷ []) k (subroutine_enters ar q k r) (all_entries ar q k r)) q is_pure k r
+    callee_within ar (settled_scope ar (s ++ r.head.name.text ∷ []) k (subroutine_enters ar q k r) (all_entries ar q k r))
+    q is_pure k r
 
 -- the head, in a round or after all
 abbrev pub head_of : (is_last : Bool) → Around → Path → Qualifiers → Bool → Option Path → tree_unit.Routine → Callee

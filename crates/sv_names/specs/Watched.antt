@@ -20,7 +20,7 @@ use Rattle.sv_flat.specs.declared.target.Part.{Part}
 use Rattle.sv_flat.specs.declared.target.Base.{Base}
 use Rattle.sv_flat.specs.declared.target.Base.TheVariants as base
 use Rattle.sv_flat.specs.Expr as flat
-use Rattle.sv_flat.specs.Eval.{known_index, low_place, type_width}
+use Rattle.sv_flat.specs.Eval.{known_index, low_place, plain_width, type_width}
 use Rattle.sv_flat.specs.Names.{form_exprs, call_exprs, inner_routines, forked, form_targets, call_targets}
 
 -- ---- watched operands: names with their leading constant selects
@@ -203,12 +203,13 @@ lies_in w (Some p) (Some q) = int_le q.0 p.0 && int_le (p.0 +ℤ pos p.1) (q.0 +
 -- the width of the whole
 abbrev pub width_of_operand : flat.Expr → ℕ
 width_of_operand (flat.Object at o t) = type_width t
-width_of_operand (flat.Element at o b t i) = Rattle.sv_flat.specs.Eval.plain_width t
+width_of_operand (flat.Element at o b t i) = plain_width t
 width_of_operand e = 0
 
 -- whether an operand lies in what is written
 abbrev pub covers : flat.Expr → Option Span → Option Span → Bool
-covers e (Some a) (Some b) = (a.object.0 == b.object.0) && same_element b.element a.element && lies_in (width_of_operand e) a.part b.part
+covers e (Some a) (Some b) =
+    (a.object.0 == b.object.0) && same_element b.element a.element && lies_in (width_of_operand e) a.part b.part
 covers e a b = false
 
 -- whether an operand lies in a target
