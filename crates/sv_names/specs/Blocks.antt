@@ -12,13 +12,14 @@ use Rattle.sv_tree.specs.Stmt.{Decl, Declarator, Init}
 use Rattle.sv_names.specs.declared.checked.Checked.{Checked}
 use Rattle.sv_names.specs.declared.checked.Checked.TheVariants.{Good}
 use Rattle.sv_names.specs.declared.ty.Ty.{Ty}
+use Rattle.sv_names.specs.declared.ty.Ty.TheVariants.{Nothing}
 use Rattle.sv_names.specs.declared.typed.Typed.{Typed}
 use Rattle.sv_names.specs.declared.scope.Scope.{Scope}
 use Rattle.sv_names.specs.declared.named.Named.{Named}
 use Rattle.sv_names.specs.declared.named.Named.TheVariants.{Variable, Local}
 use Rattle.sv_names.specs.Checked.{both, ◌▷◌, given, broken_at, rule, fine, ◌where_also◌}
 use Rattle.sv_names.specs.Types.{Path, same_bytes, is_fixed}
-use Rattle.sv_names.specs.Named.{Around, found, in_turn, behind, raised, hidden_in, further}
+use Rattle.sv_names.specs.Named.{Around, found, raised, further}
 use Rattle.sv_names.specs.Things.{variable_typed}
 use Rattle.sv_names.specs.Targets.{Spot}
 use Rattle.sv_names.specs.Entries.{Entry, twice, is_automatic_life}
@@ -28,16 +29,18 @@ use Rattle.sv_names.specs.Assignments.{assignment, initial_of, place_of_init}
 
 -- ---- paths and scopes
 
--- how many scopes a statement makes in the scope that it stands in
 abbrev mutual
+  -- how many scopes a statement makes in the scope that it stands in
   pub scopes_made : tree_stmt.Stmt → ℕ
   scopes_made (tree_stmt.Statement at label b) = scopes_in b
 
-  pub scopes_of_arms : tree_stmt.CaseItems → ℕ
-  scopes_of_arms tree_stmt.NoCaseItem = 0
-  scopes_of_arms (tree_stmt.Labels es x rest) = scopes_made x + scopes_of_arms rest
-  scopes_of_arms (tree_stmt.Default x rest) = scopes_made x + scopes_of_arms rest
+  -- the same of the items of a `case`
+  pub scopes_of_items : tree_stmt.CaseItems → ℕ
+  scopes_of_items tree_stmt.NoCaseItem = 0
+  scopes_of_items (tree_stmt.Labels es x rest) = scopes_made x + scopes_of_items rest
+  scopes_of_items (tree_stmt.Default x rest) = scopes_made x + scopes_of_items rest
 
+  -- the same of a statement without its label
   pub scopes_in : tree_stmt.Body → ℕ
   scopes_in (tree_stmt.Block n ds xs e) = 1
   scopes_in (tree_stmt.Fork n ds xs j e) = 1
@@ -46,7 +49,7 @@ abbrev mutual
   scopes_in (tree_stmt.Foreach a i x) = 1
   scopes_in (tree_stmt.If e x) = scopes_made x
   scopes_in (tree_stmt.IfElse e x y) = scopes_made x + scopes_made y
-  scopes_in (tree_stmt.Case w e as') = scopes_of_arms as'
+  scopes_in (tree_stmt.Case w e is) = scopes_of_items is
   scopes_in (tree_stmt.While e x) = scopes_made x
   scopes_in (tree_stmt.Do x e) = scopes_made x
   scopes_in (tree_stmt.Repeat e x) = scopes_made x
@@ -117,7 +120,8 @@ variable_spot ar at n = of_typed (variable_typed ar at n)
 
 -- of a variable of the activation: an assignment, whose place is the name
 abbrev pub assigned_first : Around → Name → Init → Checked Code
-assigned_first ar n i = given (single n.at) (raised ar (λ s. assignment s (declared_variable s n ▷ variable_spot s n.at) None i))
+assigned_first ar n i =
+    given (single n.at) (raised ar (λ s. assignment s (declared_variable s n ▷ variable_spot s n.at) None i))
 
 -- the object of a static variable
 abbrev pub object_of : Around → Name → Named → Option Initial → List Object
@@ -128,7 +132,7 @@ object_of ar n x i = []
 abbrev pub type_of_variable : Named → Checked Ty
 type_of_variable (Variable p t) = Good t
 type_of_variable (Local u p t) = Good t
-type_of_variable n = Good Rattle.sv_names.specs.declared.ty.Ty.TheVariants.Nothing
+type_of_variable n = Good Nothing
 
 -- an object with its initial value, and no statement
 abbrev pub static_variable : Around → Name → Checked Named → Option Init → Checked Code

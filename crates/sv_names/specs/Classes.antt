@@ -9,8 +9,7 @@ use Rattle.sv_tree.specs.declared.word.Name.{Name}
 use Rattle.sv_tree.specs.declared.word.Direction.{Direction}
 use Rattle.sv_tree.specs.declared.word.Direction.TheVariants as direction
 use Rattle.sv_tree.specs.Stmt.{Declarator}
-use Rattle.sv_tree.specs.Units as tree_unit
-use Rattle.sv_tree.specs.declared.class.Qualifiers.{Qualifiers}
+use Rattle.sv_tree.specs.Classes as tree_class
 use Rattle.sv_names.specs.declared.around.ClassInfo.{ClassInfo}
 use Rattle.sv_names.specs.declared.checked.Checked.{Checked}
 use Rattle.sv_names.specs.declared.checked.Checked.TheVariants.{Good, Broken}
@@ -25,7 +24,7 @@ use Rattle.sv_names.specs.Named.{Around, line_of, method_in, in_known}
 use Rattle.sv_names.specs.Entries.{Entry, Declared as Declaration, A_class, An_announcement, twice, class_entries, is_constructor, pure_routine}
 use Rattle.sv_names.specs.Scopes.{known_stand}
 use Rattle.sv_names.specs.Groups.{Head, base_stands, not_cyclic, in_class}
-use Rattle.sv_names.specs.Code.{object_at}
+use Rattle.sv_names.specs.Code.{object_at, home_of}
 use Rattle.sv_names.specs.Assignments.{initial_of}
 use Rattle.sv_names.specs.Blocks.{end_label}
 use Rattle.sv_names.specs.Subroutines.{Made_subroutine, made_subroutine, nothing_before, pure_stands, implied_constructor, written_constructor, constructor_path}
@@ -40,9 +39,10 @@ pub record Class_parts : Type 0 where
 
 -- a method that is no constructor
 abbrev pub method_of : Around → ClassInfo → tree_class.ClassItem → Checked (List Made_subroutine)
-method_of ar k (tree_class.Method q r) =
-    if is_constructor r.head then Good [] else given (λ m. m ∷ []) (made_subroutine ar k.path q (Some k.path) r r.body nothing_before)
-method_of ar k (tree_class.Pure at h) = pure_stands ar k.path (Some k.path) (pure_routine h) ▷ (λ u. Good [])
+method_of ar k (tree_class.Method m) =
+    if is_constructor m.routine.head then Good []
+    else given (λ x. x ∷ []) (made_subroutine ar k.path m.qualifiers (Some k.path) m.routine m.routine.stmts nothing_before)
+method_of ar k (tree_class.Pure m) = pure_stands ar k.path (Some k.path) (pure_routine m.head) ▷ (λ u. Good [])
 method_of ar k i = Good []
 
 -- lists one after another
@@ -52,8 +52,9 @@ joined c = given (flat_map (λ x. x)) c
 -- the constructor that is written, or the implied one
 abbrev pub constructor_of : Around → ClassInfo → (whole rest : List tree_class.ClassItem) → Checked Made_subroutine
 constructor_of ar k whole [] = implied_constructor ar k whole
-constructor_of ar k whole (tree_class.Method q r ∷ is) =
-    if is_constructor r.head then written_constructor ar k whole q r else constructor_of ar k whole is
+constructor_of ar k whole (tree_class.Method m ∷ is) =
+    if is_constructor m.routine.head then written_constructor ar k whole m.qualifiers m.routine
+    else constructor_of ar k whole is
 constructor_of ar k whole (i ∷ is) = constructor_of ar k whole is
 
 -- ---- static properties
@@ -64,7 +65,8 @@ static_object ar k x = of_known (in_known 0 0 x.name.text k.scope.known)
   where
     of_named : Named → Checked (List Object)
     of_named (Static_property c g p t) =
-        given (λ i. object_at ar object_kind.Variable false true false x.name.at p t i ∷ []) (initial_of ar x.name.at (Good t) x.init)
+        given (λ i. object_at ar object_kind.Variable false true false x.name.at p t i ∷ [])
+        (initial_of ar x.name.at (Good t) x.init)
     of_named n = Good []
 
     of_known : Option (Checked Named) → Checked (List Object)
@@ -74,7 +76,8 @@ static_object ar k x = of_known (in_known 0 0 x.name.text k.scope.known)
 
 -- the objects of the static properties of an item
 abbrev pub static_objects : Around → ClassInfo → tree_class.ClassItem → Checked (List Object)
-static_objects ar k (tree_class.Property q d) = if q.is_static then joined (each (static_object ar k) d.names) else Good []
+static_objects ar k (tree_class.Property p) =
+    if p.qualifiers.is_static then joined (each (static_object ar k) p.decl.names) else Good []
 static_objects ar k i = Good []
 
 -- ---- the class itself
@@ -105,7 +108,7 @@ abbrev pub flat_class : Around → ClassInfo → Class
 flat_class ar k =
     record {
       at = k.name.at;
-      home = Rattle.sv_names.specs.Code.home_of ar;
+      home = home_of ar;
       base = option_map ar.numbers.class k.base;
       properties = properties_of ar (line_of ar.classes k.path);
       methods = map (method_number ar k) k.slots;
@@ -125,14 +128,16 @@ same_direction d e = false
 abbrev pub same_formals : List Formal → List Formal → Checked Bool
 same_formals [] [] = Good true
 same_formals (f ∷ fs) (g ∷ gs) =
-    given (λ p. same_direction f.direction g.direction && same_type p.0.0 p.0.1 && p.1) (both (both f.ty g.ty) (same_formals fs gs))
+    given (λ p. same_direction f.direction g.direction && same_type p.0.0 p.0.1 && p.1)
+    (both (both f.ty g.ty) (same_formals fs gs))
 same_formals fs gs = Good false
 
 -- a method against the virtual one of its name in the base
 abbrev pub overrides : Name → Callee → Callee → Checked (Unit {0})
 overrides n c d =
     both (both c.result d.result) (same_formals c.formals d.formals)
-    ▷ (λ p. rule 34 n.at (not (same_flag c.is_task d.is_task && same_flag c.is_static d.is_static && same_type p.0.0 p.0.1 && p.1)))
+    ▷ (λ p. rule 34 n.at
+    (not (same_flag c.is_task d.is_task && same_flag c.is_static d.is_static && same_type p.0.0 p.0.1 && p.1)))
 
 -- a member that overrides a virtual method
 abbrev pub override_stands : Around → Option Path → Known → Checked (Unit {0})

@@ -1,5 +1,5 @@
 -- Statements with their names resolved (IEEE 1800-2017, 9 to 12): the table of all forms.
-use Rattle.std.specs.Prelude.{ℕ, ◌+◌, Bool, true, false, not, ◌&&◌, List, [], ◌∷◌, ◌++◌, Option, Some, None, if◌then◌else◌, map, flat_map, max, length}
+use Rattle.std.specs.Prelude.{ℕ, ◌+◌, Bool, true, false, not, ◌&&◌, List, [], ◌∷◌, ◌++◌, Option, Some, None, if◌then◌else◌, flat_map}
 use Rattle.sv_value.specs.declared.place.Place.{Place}
 use Rattle.sv_value.specs.declared.number.RoutineId.{RoutineId}
 use Rattle.sv_flat.specs.declared.class.Routine.{Routine}
@@ -7,7 +7,6 @@ use Rattle.sv_flat.specs.declared.object.Declared.{Declared}
 use Rattle.sv_flat.specs.declared.stmt.Stmt.{Stmt}
 use Rattle.sv_flat.specs.declared.stmt.Form.{Form}
 use Rattle.sv_flat.specs.declared.stmt.Form.TheVariants as form
-use Rattle.sv_flat.specs.declared.stmt.CaseItem.{CaseItem}
 use Rattle.sv_flat.specs.declared.stmt.JoinKind.{JoinKind}
 use Rattle.sv_flat.specs.declared.stmt.JoinKind.TheVariants as join_kind
 use Rattle.sv_flat.specs.declared.target.Lvalue.{Lvalue}
@@ -21,7 +20,7 @@ use Rattle.sv_tree.specs.Expr as tree
 use Rattle.sv_tree.specs.Expr.{place_of, place_of_root}
 use Rattle.sv_tree.specs.Types.{WrittenType}
 use Rattle.sv_tree.specs.Stmt as tree_stmt
-use Rattle.sv_tree.specs.Stmt.{Decl, Init, First, Last, Event}
+use Rattle.sv_tree.specs.Stmt.{Decl, CaseItems, ForStep, Event}
 use Rattle.sv_names.specs.declared.typed.How.TheVariants.{Statement as By_statement}
 use Rattle.sv_names.specs.declared.around.Returns.{Returns}
 use Rattle.sv_names.specs.declared.around.Returns.TheVariants.{Outside, NoValue as No_value, SomeValue as Some_value}
@@ -35,21 +34,22 @@ use Rattle.sv_names.specs.declared.scope.Scope.{Scope}
 use Rattle.sv_names.specs.declared.named.Known.{Known}
 use Rattle.sv_names.specs.declared.named.Named.{Named}
 use Rattle.sv_names.specs.declared.named.Named.TheVariants.{Itself}
-use Rattle.sv_names.specs.Checked.{both, ◌▷◌, given, broken_at, rule, fine, ◌where_also◌, all, only, also_broken}
-use Rattle.sv_names.specs.Types.{Path, is_array, is_integral, width_of_type, sign_of_type, is_event, data_of, same_path, key_of}
-use Rattle.sv_names.specs.Hoisted.{pure, mapped, paired, in_row}
-use Rattle.sv_names.specs.Named.{Around, placed_at, local_size, in_turn, behind, raised, hidden_in, result_named, further}
-use Rattle.sv_names.specs.Values.{alone, folded, one_item, assigned}
+use Rattle.sv_names.specs.Checked.{both, ◌▷◌, given, broken_at, rule, ◌where_also◌, only}
+use Rattle.sv_names.specs.Types.{Path, is_array, is_event, data_of, same_path, key_of}
+use Rattle.sv_names.specs.Hoisted.{pure, mapped, paired}
+use Rattle.sv_names.specs.Named.{Around, nearest, placed_at, local_size, raised, result_named, further}
+use Rattle.sv_names.specs.Values.{alone, one_item, assigned}
 use Rattle.sv_names.specs.Selects.{container_of}
 use Rattle.sv_names.specs.Targets.{lvalue}
 use Rattle.sv_names.specs.Formats.{values_stand}
 use Rattle.sv_names.specs.Calls.{wait_stands}
 use Rattle.sv_names.specs.Things.{root_thing, variable_typed}
-use Rattle.sv_names.specs.Expressions.{expr, args, target, number_in, called_in, system_of}
+use Rattle.sv_names.specs.Expressions.{expr, actual_args, target, number_in, called_in, system_of}
 use Rattle.sv_names.specs.Entries.{Entry, entry, A_given, A_local, decl_entries, blocks, blocks_of, items_in}
-use Rattle.sv_names.specs.Code.{Numbered, Code, followed, changed, just, empty, ◌>>◌, as_routine, statement, single, plain, over, in_order, locals_of}
-use Rattle.sv_names.specs.Assignments.{Amount, amount_of, delay_of, timed, timing_stands, assignment, later, updated, stepped}
-use Rattle.sv_names.specs.Events.{control, in_event, Placed, may_be_subject, label_stands, labels_in, case_of, system_task, system_ignored, call_statement}
+use Rattle.sv_names.specs.Code.{Numbered, Code, followed, changed, just, empty, ◌>>◌, as_routine, statement, single, plain, over, locals_of}
+use Rattle.sv_names.specs.Assignments.{Amount, amount_of, timed, timing_stands, assignment, blocking, later, operated, stepped}
+use Rattle.sv_names.specs.Events.{control, named_event, in_event, system_task, system_ignored, call_statement}
+use Rattle.sv_names.specs.Cases.{Heads, case_heads, case_code}
 use Rattle.sv_names.specs.Watched.{star_watches}
 use Rattle.sv_names.specs.Blocks.{scopes_made, after_scopes, first_name, inner_scope, inside, scope_stands, end_label, declared_variable, variable_spot, decls_code, in_sequence}
 
@@ -91,7 +91,7 @@ after_star at c = record c { make = λ n. watching (c.make n) n }
 abbrev pub trigger_form : Place → Typed → Checked (Hoisted Form)
 trigger_form at t = one_item t ▷ (λ x. if is_event x.ty then Good (mapped form.Trigger x.code) else broken_at 15 at)
 
--- E15: what `->` triggers is one event
+-- E15: what `->` triggers is one event (15.5.1)
 abbrev pub triggered : Around → tree.Lval → Checked (Hoisted Form)
 triggered ar (tree.Lval.Post r s) = expr ar (tree.Post r s) ▷ trigger_form (place_of_root r)
 triggered ar (tree.Lval.Join at ls) = broken_at 15 at
@@ -102,16 +102,16 @@ triggered ar (tree.Lval.Join at ls) = broken_at 15 at
 abbrev pub call_of : Around → Place → tree.Expr → Checked Code
 call_of ar at (tree.Post r s) =
     given (single at) (raised ar (λ i. given call_statement (called_in i (place_of_root r) false (root_thing i r) s)))
-call_of ar at (tree.System n a) = given (single at) (raised ar (λ i. system_task i n.at es (system_of n)))
-call_of ar at (tree.SuperNew p new a) = broken_at 38 p where_also values_stand (args ar es)
+call_of ar at (tree.System n a) = given (single at) (raised ar (λ i. system_task i n.at a (system_of n)))
+call_of ar at (tree.SuperNew p new a) = broken_at 38 p where_also values_stand (actual_args ar a)
 call_of ar at e = broken_at 7 (place_of e)
 
 -- `void'(..)`
 abbrev pub ignored : Around → Place → tree.Expr → Checked Code
 ignored ar at (tree.Post r s) =
     given (single at) (raised ar (λ i. given call_statement (called_in i (place_of_root r) true (root_thing i r) s)))
-ignored ar at (tree.System n a) = given (single at) (raised ar (λ i. system_ignored i n.at es (system_of n)))
-ignored ar at (tree.SuperNew p new a) = broken_at 38 p where_also values_stand (args ar es)
+ignored ar at (tree.System n a) = given (single at) (raised ar (λ i. system_ignored i n.at a (system_of n)))
+ignored ar at (tree.SuperNew p new a) = broken_at 38 p where_also values_stand (actual_args ar a)
 ignored ar at e = broken_at 7 (place_of e)
 
 -- ---- `return`
@@ -129,16 +129,12 @@ result_variable up place (k ∷ ks) = or_next k.value (result_variable up (furth
     or_next (Good (Itself c n)) next = as_named (placed_at up place (Good (Itself c n)))
     or_next v next = next
 
--- the nearer of two
-abbrev pub nearer : Option Named → Option Named → Option Named
-nearer None b = b
-nearer (Some a) b = Some a
-
 -- the result variable of the function around
 abbrev pub result_from : ℕ → Path → List Scope → Option Named
 result_from up p [] = None
 result_from up p (s ∷ ss) =
-    nearer (if same_path p s.path then result_variable up 0 s.known else None) (result_from (if s.enters then further up 1 else up) p ss)
+    nearest (if same_path p s.path then result_variable up 0 s.known else None)
+    (result_from (if s.enters then further up 1 else up) p ss)
 
 -- the result variable as a target
 abbrev pub result_targets : Around → Place → Path → Hoisted (List Lvalue)
@@ -198,107 +194,6 @@ abbrev pub fork_code : Place → List Declared → JoinWord → Code → Numbere
 fork_code at ls j inits children =
     followed (λ i cs. statement at (pure (form.Fork ls i cs (join_of j))) ∷ []) (first_routine at inits) children
 
--- ---- `case`
-
--- the labels of an item, None of the default
-abbrev pub Labels : Type 0
-Labels = Option (List Placed)
-
--- the labels of all items
-abbrev pub label_rules : Around → Ty → List Labels → Checked (Unit {0})
-label_rules ar t [] = fine
-label_rules ar t (None ∷ ls) = label_rules ar t ls
-label_rules ar t (Some ps ∷ ls) = all (label_stands ar t) ps where_also label_rules ar t ls
-
--- how many hidden variables labels take
-abbrev pub hidden_of_labels : List Placed → ℕ
-hidden_of_labels [] = 0
-hidden_of_labels (p ∷ ps) = length p.1.code.hidden + hidden_of_labels ps
-
--- the labels of an item, and those behind it
-abbrev pub and_labels : Checked (List Placed) → (ℕ → Checked (List Labels)) → Checked (List Labels)
-and_labels (Good ps) go = given (λ ls. Some ps ∷ ls) (go (hidden_of_labels ps))
-and_labels (Broken f) go = also_broken f (only (go 0))
-
--- the labels of each item
-abbrev pub all_labels : Around → tree_stmt.CaseItems → Checked (List Labels)
-all_labels ar tree_stmt.NoCaseItem = Good []
-all_labels ar (tree_stmt.Labels es x rest) = and_labels (labels_in ar es) (λ n. all_labels (behind n ar) rest)
-all_labels ar (tree_stmt.Default x rest) = given (λ ls. None ∷ ls) (all_labels ar rest)
-
--- the width and the sign in which all are compared
-abbrev pub widest : ℕ → List Placed → ℕ
-widest w [] = w
-widest w (p ∷ ps) = widest (max w (width_of_type p.1.ty)) ps
-
--- whether all are signed
-abbrev pub all_signed : Bool → List Placed → Bool
-all_signed s [] = s
-all_signed s (p ∷ ps) = all_signed (s && sign_of_type p.1.ty) ps
-
--- all labels, in order
-abbrev pub labels_of : List Labels → List Placed
-labels_of [] = []
-labels_of (None ∷ ls) = labels_of ls
-labels_of (Some ps ∷ ls) = ps ++ labels_of ls
-
--- a number in the width and sign of the whole
-abbrev pub compared_as : ℕ → Bool → Typed → Hoisted flat.Expr
-compared_as w s t =
-    if is_integral t.ty then folded t.is_constant t.ty (mapped (flat.Widen w s) t.code) else alone t
-
--- the labels of each item
-abbrev pub labelled : (Typed → Hoisted flat.Expr) → List Labels → List (Hoisted (List flat.Expr))
-labelled f [] = []
-labelled f (None ∷ ls) = labelled f ls
-labelled f (Some ps ∷ ls) = in_row (map (λ p. f p.1) ps) ∷ labelled f ls
-
--- the statements of the items with labels
-abbrev pub with_labels : tree_stmt.CaseItems → List RoutineId → List RoutineId
-with_labels (tree_stmt.Labels es x rest) (r ∷ rs) = r ∷ with_labels rest rs
-with_labels (tree_stmt.Default x rest) (r ∷ rs) = with_labels rest rs
-with_labels as' rs = []
-
--- a default, where no later one is
-abbrev pub or_earlier : Option RoutineId → RoutineId → Option RoutineId
-or_earlier None r = Some r
-or_earlier (Some q) r = Some q
-
--- the last default
-abbrev pub default_in : tree_stmt.CaseItems → List RoutineId → Option RoutineId
-default_in (tree_stmt.Labels es x rest) (r ∷ rs) = default_in rest rs
-default_in (tree_stmt.Default x rest) (r ∷ rs) = or_earlier (default_in rest rs) r
-default_in as' rs = None
-
--- labels with their statements
-abbrev pub arms_of : List (List flat.Expr) → List RoutineId → List Arm
-arms_of [] rs = []
-arms_of (l ∷ ls) [] = []
-arms_of (l ∷ ls) (r ∷ rs) = record { labels = l; body = r } ∷ arms_of ls rs
-
--- the subject of a `case` and its labels, in the width and sign of the widest
-abbrev pub Heads : Type 0
-Heads = flat.Expr × List (List flat.Expr)
-
--- all are compared alike
-abbrev pub heads_of : Typed → List Labels → Hoisted Heads
-heads_of x ls =
-    let f : Typed → Hoisted flat.Expr =
-    compared_as (widest (width_of_type x.ty) (labels_of ls)) (all_signed (sign_of_type x.ty) (labels_of ls)) in
-    paired (λ e es. (e, es)) (f x) (in_row (labelled f ls))
-
--- E15: the subject and the labels of a `case`
-abbrev pub case_heads : Around → tree.Expr → tree_stmt.CaseItems → Checked (Hoisted Heads)
-case_heads ar e as' =
-    in_turn (expr ar e) (λ x n. both (x ▷ may_be_subject (place_of e)) (all_labels (behind n ar) as'))
-    ▷ (λ p. Good (heads_of p.0 p.1) where_also label_rules ar p.0.ty p.1)
-
--- a `case` of the flat design
-abbrev pub case_code : Place → CaseWord → tree_stmt.CaseItems → Hoisted Heads → List Code → Code
-case_code at w as' h cs =
-    over at (mapped (λ p rs. form.Case (case_of w) p.0 (arms_of p.1 (with_labels as' rs)) (default_in as' rs)) h)
-    (in_order (map (λ c. as_routine at c) cs))
-
 -- ---- loops
 
 -- in the body of a loop
@@ -334,10 +229,11 @@ foreach_type (Good t) = Good (key_of t.ty)
 foreach_type (Broken f) = Broken f
 
 -- the last part of a `for`
-abbrev pub last_code : Around → Place → Last → Checked Code
-last_code ar at (tree_stmt.ForStep.Assign l e) = given (single at) (raised ar (λ i. assignment i (target By_statement i l) None (tree_stmt.Value e)))
-last_code ar at (tree_stmt.ThenOp l w e) = given (single at) (raised ar (λ i. updated i l w (place_of e) (λ j. expr j e)))
-last_code ar at (tree_stmt.ForStep.Step p l w) = given (single at) (raised ar (λ i. stepped i l w))
+abbrev pub step_code : Around → Place → ForStep → Checked Code
+step_code ar at (tree_stmt.ForStep.Assign l e) =
+    given (single at) (raised ar (λ i. assignment i (target By_statement i l) None (tree_stmt.Value e)))
+step_code ar at (tree_stmt.ForStep.Operator a) = given (single at) (raised ar (λ i. operated i a))
+step_code ar at (tree_stmt.ForStep.Step p l w) = given (single at) (raised ar (λ i. stepped i l w))
 
 -- ---- the table
 
@@ -352,7 +248,8 @@ if_code at c x = over at (mapped (λ e r. form.If e r None) c) (as_routine at x)
 -- with both branches
 abbrev pub if_else_code : Place → Hoisted flat.Expr → Code → Code → Code
 if_else_code at c x y =
-    over {R = RoutineId × RoutineId} at (mapped (λ e p. form.If e p.0 (Some p.1)) c) (followed (λ a b. (a, b)) (as_routine at x) (as_routine at y))
+    over {R = RoutineId × RoutineId} at (mapped (λ e p. form.If e p.0 (Some p.1)) c)
+    (followed (λ a b. (a, b)) (as_routine at x) (as_routine at y))
 
 -- `if` without an `else`
 abbrev pub if_given : Place → Checked (Hoisted flat.Expr) → Checked Code → Checked Code
@@ -383,8 +280,8 @@ abbrev pub forever_given : Place → Checked Code → Checked Code
 forever_given at x = given (λ c. over at (pure form.Forever) (as_routine at c)) x
 
 -- `case`
-abbrev pub case_given : Place → CaseWord → tree_stmt.CaseItems → Checked (Hoisted Heads) → Checked (List Code) → Checked Code
-case_given at w as' h cs = given (λ p. case_code at w as' p.0 p.1) (both h cs)
+abbrev pub case_given : Place → CaseWord → CaseItems → Checked (Hoisted Heads) → Checked (List Code) → Checked Code
+case_given at w is h cs = given (λ p. case_code at w is p.0 p.1) (both h cs)
 
 -- an item of a `case` before others
 abbrev pub code_before : Checked Code → Checked (List Code) → Checked (List Code)
@@ -404,7 +301,7 @@ then_code at f c = given (λ p. single at p.0 >> p.1) (both f c)
 
 -- an event control before a statement
 abbrev pub at_event : Around → Place → Event → Checked Code → Checked Code
-at_event ar at (tree_stmt.Event.Named n) x = then_code at (control ar (Rattle.sv_names.specs.Events.named_event n ∷ [])) x
+at_event ar at (tree_stmt.Event.Named n) x = then_code at (control ar (named_event n ∷ [])) x
 at_event ar at tree_stmt.Star x = given (after_star at) x
 at_event ar at (tree_stmt.Parts ps) x = then_code at (control ar ps) x
 
@@ -417,14 +314,16 @@ block_in ar at s es ds go =
 -- a fork in its scope
 abbrev pub fork_in : Around → Place → Scope → List Entry → List Decl → JoinWord → (Around → Checked (Numbered (List RoutineId))) → Checked Code
 fork_in ar at s es ds j go =
-    given (λ p. fork_code at (locals_of ar.numbers s) j p.0 p.1) (both (decls_code (inside s ar) ds) (go (in_fork (inside s ar))))
+    given (λ p. fork_code at (locals_of ar.numbers s) j p.0 p.1)
+    (both (decls_code (inside s ar) ds) (go (in_fork (inside s ar))))
     where_also scope_stands s es
 
 -- a `for` that declares its variable
-abbrev pub for_in : Around → Place → Scope → List Entry → Name → tree.Expr → tree.Expr → Last → (Around → Checked Code) → Checked Code
+abbrev pub for_in : Around → Place → Scope → List Entry → Name → tree.Expr → tree.Expr → ForStep → (Around → Checked Code) → Checked Code
 for_in ar at s es n v e l go =
     given (λ p. for_code at (locals_of ar.numbers s) p.0.0 p.0.1 p.1.0 p.1.1)
-    (both (both (first_of_loop (inside s ar)) (condition (inside s ar) e)) (both (go (in_loop (inside s ar))) (last_code (inside s ar) at l)))
+    (both (both (first_of_loop (inside s ar)) (condition (inside s ar) e))
+    (both (go (in_loop (inside s ar))) (step_code (inside s ar) at l)))
     where_also scope_stands s es
   where
     first_of_loop : Around → Checked Code
@@ -449,9 +348,11 @@ abbrev pub walked_array : Around → Name → Checked Typed
 walked_array ar a = expr ar (tree.Post (root.Plain a) tree.NoSuffix) ▷ walked a.at
 
 abbrev mutual
+  -- a statement
   pub stmt : Around → tree_stmt.Stmt → Checked Code
   stmt ar (tree_stmt.Statement at label b) = body ar at label b
 
+  -- statements one after another
   pub stmts : Around → tree_stmt.Stmts → Checked Code
   stmts ar tree_stmt.NoStmt = Good empty
   stmts ar (tree_stmt.AndStmt x xs) = in_sequence (stmt ar x) (stmts (after_scopes (scopes_made x) ar) xs)
@@ -463,61 +364,63 @@ abbrev mutual
       child_before at (stmt ar x) (children (after_scopes (scopes_made x) ar) at xs)
 
   -- the statements of the items of a `case`
-  pub items : Around → tree_stmt.CaseItems → Checked (List Code)
+  pub items : Around → CaseItems → Checked (List Code)
   items ar tree_stmt.NoCaseItem = Good []
   items ar (tree_stmt.Labels es x rest) = code_before (stmt ar x) (items (after_scopes (scopes_made x) ar) rest)
   items ar (tree_stmt.Default x rest) = code_before (stmt ar x) (items (after_scopes (scopes_made x) ar) rest)
 
+  -- a statement without its label, at its first token
   pub body : Around → Place → Option Name → tree_stmt.Body → Checked Code
   body ar at label tree_stmt.Null = Good (plain (place_from at label) form.Null)
   body ar at label (tree_stmt.Block n ds xs end) =
-      block_in ar (place_from at label) (inner_scope ar (first_name n label) (block_entries ar ds xs)) (block_entries ar ds xs) ds (λ i. stmts i xs)
+      block_in ar (place_from at label) (inner_scope ar (first_name n label) (block_entries ar ds xs)) (block_entries ar ds xs) ds
+      (λ i. stmts i xs)
       where_also end_label (first_name n label) end
   body ar at label (tree_stmt.Fork n ds xs j end) =
       fork_in ar (place_from at label) (inner_scope ar (first_name n label) (block_entries ar ds xs)) (block_entries ar ds xs) ds j
       (λ i. children i (place_from at label) xs)
       where_also end_label (first_name n label) end
       where_also rule 27 at (waits_for_children j && ar.may_not_wait)
-  body ar at label (tree_stmt.Assign l d i) =
-      given (single (place_from at label)) (raised ar (λ s. assignment s (target By_statement s l) d i)) where_also timed ar d
-  body ar at label (tree_stmt.Later l d e) = given (single (place_from at label)) (raised ar (λ i. later i l d e))
-  body ar at label (tree_stmt.Op l w e) = given (single (place_from at label)) (raised ar (λ i. updated i l w (place_of e) (λ j. expr j e)))
+  body ar at label (tree_stmt.Blocking a) =
+      given (single (place_from at label)) (raised ar (λ i. blocking i a)) where_also timed ar a.delay
+  body ar at label (tree_stmt.Nonblocking a) = given (single (place_from at label)) (raised ar (λ i. later i a))
+  body ar at label (tree_stmt.Body.Operator a) = given (single (place_from at label)) (raised ar (λ i. operated i a))
   body ar at label (tree_stmt.Body.Step l w) = given (single (place_from at label)) (raised ar (λ i. stepped i l w))
   body ar at label (tree_stmt.Call e) = call_of ar (place_from at label) e
   body ar at label (tree_stmt.Ignore p e) = ignored ar (place_from at label) e
-  body ar at label (tree_stmt.If e x) =
-      if_given (place_from at label) (condition ar e) (stmt ar x)
+  body ar at label (tree_stmt.If e x) = if_given (place_from at label) (condition ar e) (stmt ar x)
   body ar at label (tree_stmt.IfElse e x y) =
       if_else_given (place_from at label) (condition ar e) (both (stmt ar x) (stmt (after_scopes (scopes_made x) ar) y))
-  body ar at label (tree_stmt.Case w e as') =
-      case_given (place_from at label) w as' (raised ar (λ i. case_heads i e as')) (items ar as')
+  body ar at label (tree_stmt.Case w e is) =
+      case_given (place_from at label) w is (raised ar (λ i. case_heads i e is)) (items ar is)
   body ar at label (tree_stmt.For (tree_stmt.Declare w n v) e l x) =
-      for_in ar (place_from at label) (inner_scope (automatic_loop ar) None (for_entries w n x)) (for_entries w n x) n v e l (λ i. stmt i x)
+      for_in ar (place_from at label) (inner_scope (automatic_loop ar) None (for_entries w n x)) (for_entries w n x) n v e l
+      (λ i. stmt i x)
   body ar at label (tree_stmt.For (tree_stmt.ForInit.Assign t v) e l x) =
       given (λ p. for_code (place_from at label) [] (single (place_from at label) p.0.0) p.0.1 p.1.0 p.1.1)
       (both (both (raised ar (λ i. assignment i (target By_statement i t) None (tree_stmt.Value v))) (condition ar e))
-      (both (stmt (in_loop ar) x) (last_code ar (place_from at label) l)))
-  body ar at label (tree_stmt.While e x) =
-      while_given (place_from at label) (condition ar e) (stmt (in_loop ar) x)
-  body ar at label (tree_stmt.Do x e) =
-      do_given (place_from at label) (both (stmt (in_loop ar) x) (condition ar e))
-  body ar at label (tree_stmt.Repeat e x) =
-      repeat_given (place_from at label) (condition ar e) (stmt (in_loop ar) x)
-  body ar at label (tree_stmt.Forever x) =
-      forever_given (place_from at label) (stmt (in_loop ar) x)
+      (both (stmt (in_loop ar) x) (step_code ar (place_from at label) l)))
+  body ar at label (tree_stmt.While e x) = while_given (place_from at label) (condition ar e) (stmt (in_loop ar) x)
+  body ar at label (tree_stmt.Do x e) = do_given (place_from at label) (both (stmt (in_loop ar) x) (condition ar e))
+  body ar at label (tree_stmt.Repeat e x) = repeat_given (place_from at label) (condition ar e) (stmt (in_loop ar) x)
+  body ar at label (tree_stmt.Forever x) = forever_given (place_from at label) (stmt (in_loop ar) x)
   body ar at label (tree_stmt.Foreach a i x) =
-      foreach_in ar (place_from at label) (inner_scope ar None (foreach_entries (walked_array ar a) i x)) (foreach_entries (walked_array ar a) i x)
-      (walked_array ar a) (λ i'. stmt i' x)
+      foreach_in ar (place_from at label) (inner_scope ar None (foreach_entries (walked_array ar a) i x))
+      (foreach_entries (walked_array ar a) i x) (walked_array ar a) (λ j. stmt j x)
   body ar at label (tree_stmt.After d x) =
-      then_code (place_from at label) (raised ar (λ i. given delay_form (amount_of i d.amount))) (stmt ar x) where_also may_wait_here ar d.at
+      then_code (place_from at label) (raised ar (λ i. given delay_form (amount_of i d.amount))) (stmt ar x)
+      where_also may_wait_here ar d.at
   body ar at label (tree_stmt.On e x) = at_event ar (place_from at label) e (stmt ar x) where_also may_wait_here ar at
   body ar at label (tree_stmt.Cycles p e x) =
       then_code (place_from at label) (raised ar (λ i. cycles_form i p (amount_of i e))) (stmt ar x) where_also may_wait_here ar p
   body ar at label (tree_stmt.Wait p e x) =
-      then_code (place_from at label) (given (mapped form.Wait) (condition (in_event ar) e)) (stmt ar x) where_also may_wait_here ar p
+      then_code (place_from at label) (given (mapped form.Wait) (condition (in_event ar) e)) (stmt ar x)
+      where_also may_wait_here ar p
   body ar at label tree_stmt.WaitFork = Good (plain (place_from at label) form.WaitFork) where_also may_wait_here ar at
   body ar at label tree_stmt.DisableFork = Good (plain (place_from at label) form.DisableFork)
   body ar at label (tree_stmt.Trigger l) = given (single (place_from at label)) (raised ar (λ i. triggered i l))
   body ar at label tree_stmt.Break = Good (plain (place_from at label) form.Break) where_also rule 29 at (not ar.is_loop)
-  body ar at label tree_stmt.Continue = Good (plain (place_from at label) form.Continue) where_also rule 29 at (not ar.is_loop)
-  body ar at label (tree_stmt.Return e) = given (single (place_from at label)) (raised ar (λ i. return_of i (place_from at label) at e i.returns))
+  body ar at label tree_stmt.Continue =
+      Good (plain (place_from at label) form.Continue) where_also rule 29 at (not ar.is_loop)
+  body ar at label (tree_stmt.Return e) =
+      given (single (place_from at label)) (raised ar (λ i. return_of i (place_from at label) at e i.returns))

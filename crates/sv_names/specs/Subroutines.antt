@@ -1,5 +1,5 @@
 -- Subroutines of the flat design: tasks, functions, methods and constructors (IEEE 1800-2017, 8.7, 8.15 and 13).
-use Rattle.std.specs.Prelude.{ℕ, ◌+◌, Bool, true, false, not, ◌||◌, List, [], ◌∷◌, ◌++◌, Option, Some, None, if◌then◌else◌, codes}
+use Rattle.std.specs.Prelude.{◌+◌, Bool, true, false, not, ◌||◌, List, [], ◌∷◌, ◌++◌, Option, Some, None, if◌then◌else◌, codes}
 use Rattle.sv_value.specs.declared.place.Place.{Place}
 use Rattle.sv_flat.specs.declared.object.Object.{Object}
 use Rattle.sv_flat.specs.declared.object.ObjectKind.TheVariants as object_kind
@@ -14,19 +14,18 @@ use Rattle.sv_flat.specs.declared.stmt.Form.{Form}
 use Rattle.sv_flat.specs.declared.stmt.Form.TheVariants as form
 use Rattle.sv_flat.specs.declared.call.CallForm.TheVariants as call
 use Rattle.sv_tree.specs.declared.word.Name.{Name}
+use Rattle.sv_tree.specs.declared.word.Direction.{Direction as Written_direction}
 use Rattle.sv_tree.specs.declared.word.Direction.TheVariants as direction
 use Rattle.sv_tree.specs.Expr as tree
 use Rattle.sv_tree.specs.Stmt as tree_stmt
 use Rattle.sv_tree.specs.Units as tree_unit
+use Rattle.sv_tree.specs.Classes as tree_class
 use Rattle.sv_tree.specs.declared.class.Qualifiers.{Qualifiers}
-use Rattle.sv_tree.specs.Units.{Head}
 use Rattle.sv_names.specs.declared.around.ClassInfo.{ClassInfo}
 use Rattle.sv_names.specs.declared.around.Returns.{Returns}
-use Rattle.sv_names.specs.declared.around.Returns.TheVariants.{Outside, NoValue as No_value, SomeValue as Some_value}
-use Rattle.sv_names.specs.declared.named.ResultVariable.TheVariants as result_variable
+use Rattle.sv_names.specs.declared.around.Returns.TheVariants.{NoValue as No_value, SomeValue as Some_value}
 use Rattle.sv_names.specs.declared.checked.Checked.{Checked}
-use Rattle.sv_names.specs.declared.checked.Checked.TheVariants.{Good, Broken}
-use Rattle.sv_names.specs.declared.ty.Ty.{Ty}
+use Rattle.sv_names.specs.declared.checked.Checked.TheVariants.{Good}
 use Rattle.sv_names.specs.declared.ty.Ty.TheVariants.{Class}
 use Rattle.sv_names.specs.declared.hoisted.Hoisted.{Hoisted}
 use Rattle.sv_names.specs.declared.typed.Typed.{Typed}
@@ -34,24 +33,25 @@ use Rattle.sv_names.specs.declared.scope.Scope.{Scope}
 use Rattle.sv_names.specs.declared.named.Known.{Known}
 use Rattle.sv_names.specs.declared.named.Kind.TheVariants.{Object as Of_object}
 use Rattle.sv_names.specs.declared.named.Named.{Named}
-use Rattle.sv_names.specs.declared.named.Named.TheVariants.{Variable, Local, Itself, Property}
+use Rattle.sv_names.specs.declared.named.Named.TheVariants.{Variable, Local, Itself, Property, Subroutine as A_subroutine}
 use Rattle.sv_names.specs.declared.named.Callee.{Callee}
-use Rattle.sv_names.specs.declared.typed.Begin.{Begin}
+use Rattle.sv_names.specs.declared.named.Formal.{Formal as Argument_of}
 use Rattle.sv_names.specs.Checked.{both, ◌▷◌, given, broken_at, ◌where_also◌}
-use Rattle.sv_names.specs.Types.{Path, data_of, same_bytes}
+use Rattle.sv_names.specs.Types.{Path, data_of, is_fixed}
 use Rattle.sv_names.specs.Hoisted.{mapped, in_row}
-use Rattle.sv_names.specs.Named.{Around, class_in, in_known, in_turn, behind, raised, hidden_in, further}
+use Rattle.sv_names.specs.Named.{Around, class_in, in_known, raised}
+use Rattle.sv_names.specs.Targets.{Spot}
 use Rattle.sv_names.specs.Formats.{Arg, values_stand}
 use Rattle.sv_names.specs.Calls.{as_input}
 use Rattle.sv_names.specs.Things.{this_typed, field_typed}
-use Rattle.sv_names.specs.Expressions.{args}
-use Rattle.sv_names.specs.Entries.{Entry, Taken, taken, has_result, is_static_method, is_constructor, subroutine_is_automatic, twice, subroutine_entries, this_name, class_entries}
-use Rattle.sv_names.specs.Declarations.{of_life, result_of_life}
+use Rattle.sv_names.specs.Expressions.{actual_args}
+use Rattle.sv_names.specs.Entries.{Taken, taken, is_task, has_result, pure_qualifiers, subroutine_is_automatic, twice, subroutine_entries, this_name}
+use Rattle.sv_names.specs.Declarations.{result_of_life}
 use Rattle.sv_names.specs.Scopes.{settled_scope, callee_stands, known_stand, scope_of, callee_within, all_entries, subroutine_enters}
 use Rattle.sv_names.specs.Code.{Numbered, Code, changed, empty, single, locals_of, with_objects, home_of, object_at}
 use Rattle.sv_names.specs.Assignments.{constructor_in, with_constructor, assignment}
 use Rattle.sv_names.specs.Blocks.{end_label, decls_code, in_sequence}
-use Rattle.sv_names.specs.Statements.{stmts}
+use Rattle.sv_names.specs.Statements.{stmts, place_from, result_variable}
 
 -- a subroutine of the flat design, with the routines that its statements add
 pub record Made_subroutine : Type 0 where
@@ -62,7 +62,12 @@ pub record Made_subroutine : Type 0 where
 
 -- a function knows its own name, with its result variable
 abbrev pub itself : Scope → Callee → Bool → Known
-itself s c auto = record { name = c.name; kind = Of_object; value = given (λ t. Itself c (result_of_life auto (s.path ++ c.name.text ∷ []) t)) c.result }
+itself s c auto =
+    record {
+      name = c.name;
+      kind = Of_object;
+      value = given (λ t. Itself c (result_of_life auto (s.path ++ c.name.text ∷ []) t)) c.result;
+    }
 
 -- what the statements see
 abbrev pub body_scope : Scope → Callee → (is_automatic : Bool) → (has_result : Bool) → Scope
@@ -91,17 +96,16 @@ in_body ar s auto object waits r =
 -- ---- arguments and result
 
 -- the direction of an argument
-abbrev pub way_of : Rattle.sv_tree.specs.declared.word.Direction.Direction → Direction
+abbrev pub way_of : Written_direction → Direction
 way_of direction.Input = way.Input
 way_of direction.Output = way.Output
 way_of direction.Inout = way.Inout
 
 -- an argument, by the variable that it is
 abbrev pub formal_of : Around → Direction → Named → List Formal
-formal_of ar d (Variable p t) = record { direction = d; variable = variable.Object (ar.numbers.object p); ty = data_of ar.numbers t } ∷ []
+formal_of ar d (Variable p t) =
+    record { direction = d; variable = variable.Object (ar.numbers.object p); ty = data_of ar.numbers t } ∷ []
 formal_of ar d (Local u p t) = record { direction = d; variable = variable.Local p; ty = data_of ar.numbers t } ∷ []
-formal_of ar d (Itself c (result_variable.Object p t)) = record { direction = d; variable = variable.Object (ar.numbers.object p); ty = data_of ar.numbers t } ∷ []
-formal_of ar d (Itself c (result_variable.Local u p t)) = record { direction = d; variable = variable.Local p; ty = data_of ar.numbers t } ∷ []
 formal_of ar d n = []
 
 -- the same by what is known
@@ -119,22 +123,9 @@ argument_formals ar s (a ∷ as') =
 abbrev pub object_formal : Around → Scope → List Formal
 object_formal ar s = formal_known ar way.Input (in_known 0 0 (codes "this") s.known)
 
--- the result variable of a scope
-abbrev pub result_known : ℕ → List Known → Option Named
-result_known place [] = None
-result_known place (k ∷ ks) = or_next k.value (result_known (further place (Rattle.sv_names.specs.Named.local_size k.value)) ks)
-  where
-    placed : Checked Named → Option Named
-    placed (Good n) = Some n
-    placed (Broken f) = None
-
-    or_next : Checked Named → Option Named → Option Named
-    or_next (Good (Itself c n)) next = placed (Rattle.sv_names.specs.Named.placed_at 0 place (Good (Itself c n)))
-    or_next v next = next
-
 -- the result of a function
 abbrev pub result_formal : Around → Scope → Option Formal
-result_formal ar s = first_of (of_named (result_known 0 s.known))
+result_formal ar s = first_of (of_named (result_variable 0 0 s.known))
   where
     of_named : Option Named → List Formal
     of_named None = []
@@ -150,15 +141,16 @@ argument_objects ar s [] = []
 argument_objects ar s (a ∷ as') = of_known (in_known 0 0 a.argument.name.text s.known) ++ argument_objects ar s as'
   where
     of_known : Option (Checked Named) → List Object
-    of_known (Some (Good (Variable p t))) = object_at ar object_kind.Variable false false false a.argument.name.at p t None ∷ []
+    of_known (Some (Good (Variable p t))) =
+        object_at ar object_kind.Variable false false false a.argument.name.at p t None ∷ []
     of_known c = []
 
 -- the object of the result of a static function
 abbrev pub result_objects : Around → Scope → Name → List Object
-result_objects ar s n = of_named (result_known 0 s.known)
+result_objects ar s n = of_named (result_variable 0 0 s.known)
   where
     of_named : Option Named → List Object
-    of_named (Some (Itself c (result_variable.Object p t))) = object_at ar object_kind.Result false false false n.at p t None ∷ []
+    of_named (Some (Variable p t)) = object_at ar object_kind.Result false false false n.at p t None ∷ []
     of_named m = []
 
 -- ---- subroutines
@@ -166,7 +158,14 @@ result_objects ar s n = of_named (result_known 0 s.known)
 -- a subroutine of the flat design
 abbrev pub subroutine_of : Around → Scope → Bool → Bool → List Formal → Option Formal → Subroutine
 subroutine_of ar s is_function auto fs r =
-    record { is_function = is_function; is_automatic = auto; home = home_of ar; formals = fs; result = r; locals = locals_of ar.numbers s }
+    record {
+      is_function = is_function;
+      is_automatic = auto;
+      home = home_of ar;
+      formals = fs;
+      result = r;
+      locals = locals_of ar.numbers s;
+    }
 
 -- its routine
 abbrev pub routine_at : Place → Subroutine → Code → Numbered Routine
@@ -184,7 +183,7 @@ subroutine_in ar s c q r xs before =
     given (λ x. record {
       path = c.path;
       routine = routine_at r.head.name.at
-          (subroutine_of ar s (not r.head.is_task) auto (object_formal ar s ++ argument_formals ar s (taken r.head)) (result_formal ar s))
+          (subroutine_of ar s (not (is_task r.head)) auto (object_formal ar s ++ argument_formals ar s (taken r.head)) (result_formal ar s))
           (with_objects (argument_objects i s (taken r.head) ++ result_objects i s r.head.name) x);
     })
     (in_sequence (before i) (in_sequence (decls_code i r.decls) (stmts i xs)))
@@ -220,12 +219,12 @@ nothing_before i = Good empty
 
 -- a method that is pure has a head alone
 abbrev pub pure_stands : Around → Path → Option Path → tree_unit.Routine → Checked (Unit {0})
-pure_stands ar p k r = with_scope (subroutine_scope ar p Rattle.sv_names.specs.Entries.pure_qualifiers k r)
+pure_stands ar p k r = with_scope (subroutine_scope ar p pure_qualifiers k r)
   where
     with_scope : Scope → Checked (Unit {0})
     with_scope s =
-        known_stand s.known where_also callee_stands (callee_within ar s Rattle.sv_names.specs.Entries.pure_qualifiers true k r)
-        where_also twice (λ e. 5) [] (subroutine_entries ar.is_automatic Rattle.sv_names.specs.Entries.pure_qualifiers k r)
+        known_stand s.known where_also callee_stands (callee_within ar s pure_qualifiers true k r)
+        where_also twice (λ e. 5) [] (subroutine_entries ar.is_automatic pure_qualifiers k r)
 
 -- ---- constructors
 
@@ -247,7 +246,7 @@ super_code i at pe base as' (Some k) =
     given (λ p. super_form s base p.0 p.1) (both (this_typed s at) (with_constructor s pe base (as' s) (constructor_in k)))))
 
 -- E40: a base constructor needs arguments and none are given
-abbrev pub needs_arguments : List Rattle.sv_names.specs.declared.named.Formal.Formal → Bool
+abbrev pub needs_arguments : List Argument_of → Bool
 needs_arguments [] = false
 needs_arguments (f ∷ fs) = lacks f.default || needs_arguments fs
   where
@@ -261,47 +260,50 @@ constructor_needs None = false
 constructor_needs (Some k) = of_known (constructor_in k)
   where
     of_known : Option (Checked Named) → Bool
-    of_known (Some (Good (Rattle.sv_names.specs.declared.named.Named.TheVariants.Subroutine c))) = needs_arguments c.formals
+    of_known (Some (Good (A_subroutine c))) = needs_arguments c.formals
     of_known c = false
 
 -- `super.new` where none is written
 abbrev pub implied_super : Around → ClassInfo → Place → Option Path → Checked Code
 implied_super i k at None = Good empty
 implied_super i k at (Some b) =
-    if constructor_needs (class_in i.classes b) then broken_at 40 k.name.at else super_code i at at b (λ s. []) (class_in i.classes b)
+    if constructor_needs (class_in i.classes b)
+    then broken_at 40 k.name.at
+    else super_code i at at b (λ s. []) (class_in i.classes b)
 
 -- E38: `super.new` in a class that extends none
 abbrev pub written_super : Around → ClassInfo → Place → Place → (Around → List Arg) → Option Path → Checked Code
-written_super i k at ps as' None = (if k.extends then Good empty else broken_at 38 ps) where_also values_stand (as' i)
+written_super i k at ps as' None =
+    (if k.extends then Good empty else broken_at 38 ps) where_also values_stand (as' i)
 written_super i k at ps as' (Some b) = super_code i at ps b as' (class_in i.classes b)
 
 -- how a constructor begins
 pub data Opening : Type 0 where
-  Super_at : (at : Place) → (super : Place) → tree.Exprs → Opening
+  Super_at : (at : Place) → (super : Place) → tree.Actuals → Opening
   No_super : Opening
 
 -- whether `super.new` is its first statement
 abbrev pub opening_of : tree_stmt.Stmts → Opening
-opening_of (tree_stmt.AndStmt (tree_stmt.Statement at None (tree_stmt.Call (tree.SuperNew p new a))) xs) = Super_at at p es
-opening_of (tree_stmt.AndStmt (tree_stmt.Statement at (Some l) (tree_stmt.Call (tree.SuperNew p new a))) xs) = Super_at l.at p es
+opening_of (tree_stmt.AndStmt (tree_stmt.Statement at label (tree_stmt.Call (tree.SuperNew p new a))) xs) =
+    Super_at (place_from at label) p a
 opening_of xs = No_super
 
 -- the statements after it
 abbrev pub after_opening : tree_stmt.Stmts → tree_stmt.Stmts
-after_opening (tree_stmt.AndStmt (tree_stmt.Statement at l (tree_stmt.Call (tree.SuperNew p new a))) xs) = xs
+after_opening (tree_stmt.AndStmt (tree_stmt.Statement at label (tree_stmt.Call (tree.SuperNew p new a))) xs) = xs
 after_opening xs = xs
 
 -- the call of the constructor of the base
 abbrev pub super_of : ClassInfo → Place → Opening → Before
-super_of k at (Super_at p ps es) i = written_super i k p ps (λ s. args s es) k.base
+super_of k at (Super_at p ps a) i = written_super i k p ps (λ s. actual_args s a) k.base
 super_of k at No_super i = implied_super i k at k.base
 
 -- ---- the initializers of properties, each an assignment
 
 -- a property as the target of its initializer
-abbrev pub property_spot : Around → Place → Name → Named → Checked (List Rattle.sv_names.specs.Targets.Spot)
+abbrev pub property_spot : Around → Place → Name → Named → Checked (List Spot)
 property_spot i at n (Property k g m t) =
-    if Rattle.sv_names.specs.Types.is_fixed t then broken_at 42 at
+    if is_fixed t then broken_at 42 at
     else given (λ o. (at, field_typed i at k m t o) ∷ []) (this_typed i at)
 property_spot i at n m = broken_at 7 at
 
@@ -319,7 +321,9 @@ property_code i k x = of_init x.init
   where
     of_init : Option tree_stmt.Init → Checked Code
     of_init None = Good empty
-    of_init (Some e) = given (single x.name.at) (raised i (λ s. assignment s (property_known k x.name ▷ property_spot s x.name.at x.name) None e))
+    of_init (Some e) =
+        given (single x.name.at)
+        (raised i (λ s. assignment s (property_known k x.name ▷ property_spot s x.name.at x.name) None e))
 
 -- those of one declaration
 abbrev pub properties_code : Around → ClassInfo → List tree_stmt.Declarator → Checked Code
@@ -329,8 +333,9 @@ properties_code i k (x ∷ xs) = in_sequence (property_code i k x) (properties_c
 -- those of all items, in order
 abbrev pub initializers : Around → ClassInfo → List tree_class.ClassItem → Checked Code
 initializers i k [] = Good empty
-initializers i k (tree_class.Property q d ∷ is) =
-    if q.is_static then initializers i k is else in_sequence (properties_code i k d.names) (initializers i k is)
+initializers i k (tree_class.Property p ∷ is) =
+    if p.qualifiers.is_static then initializers i k is
+    else in_sequence (properties_code i k p.decl.names) (initializers i k is)
 initializers i k (x ∷ is) = initializers i k is
 
 -- a scope that knows the object alone
@@ -360,4 +365,5 @@ implied_constructor ar k is =
 -- a constructor that is written
 abbrev pub written_constructor : Around → ClassInfo → List tree_class.ClassItem → Qualifiers → tree_unit.Routine → Checked Made_subroutine
 written_constructor ar k is q r =
-    made_subroutine ar k.path q (Some k.path) r (after_opening r.body) (constructor_before ar k is r.head.name.at (opening_of r.body))
+    made_subroutine ar k.path q (Some k.path) r (after_opening r.stmts)
+    (constructor_before ar k is r.head.name.at (opening_of r.stmts))
