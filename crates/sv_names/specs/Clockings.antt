@@ -11,11 +11,10 @@ use Rattle.sv_flat.specs.declared.clocking.Signal.{Signal}
 use Rattle.sv_flat.specs.declared.clocking.Skew.{Skew}
 use Rattle.sv_flat.specs.declared.clocking.Skew.TheVariants as skew
 use Rattle.sv_tree.specs.declared.word.Name.{Name}
-use Rattle.sv_tree.specs.declared.word.EdgeWord.{EdgeWord}
 use Rattle.sv_tree.specs.Expr as tree
 use Rattle.sv_tree.specs.Expr.{place_of}
 use Rattle.sv_tree.specs.Units as tree_unit
-use Rattle.sv_tree.specs.Units.{Sided}
+use Rattle.sv_tree.specs.Units.{Sided, ClockingItem, ClockingBlock}
 use Rattle.sv_names.specs.declared.checked.Checked.{Checked}
 use Rattle.sv_names.specs.declared.checked.Checked.TheVariants.{Good, Broken}
 use Rattle.sv_names.specs.declared.ty.Ty.{Ty}
@@ -28,7 +27,7 @@ use Rattle.sv_names.specs.Named.{Around, meaning, kind_stands, is_object_kind}
 use Rattle.sv_names.specs.Values.{constant_number}
 use Rattle.sv_names.specs.Operators.{ticks_in}
 use Rattle.sv_names.specs.Expressions.{expr}
-use Rattle.sv_names.specs.Scopes.{is_input_side, is_output_side, any_side, signal_of_named}
+use Rattle.sv_names.specs.Scopes.{is_input_side, signal_of_named, signals_in}
 use Rattle.sv_names.specs.Code.{object_at}
 use Rattle.sv_names.specs.Events.{edge_of}
 use Rattle.sv_names.specs.Blocks.{end_label}
@@ -80,7 +79,7 @@ with_skews ar k [] = Good k
 with_skews ar k (s ∷ ss) = with_skew ar k s ▷ (λ j. with_skews ar j ss) where_also only (with_skews ar k ss)
 
 -- the skews that the block makes usual
-abbrev pub defaults : Around → Skews → List tree_unit.ClockingItem → Checked Skews
+abbrev pub defaults : Around → Skews → List ClockingItem → Checked Skews
 defaults ar k [] = Good k
 defaults ar k (tree_unit.Default ss ∷ is) = with_skews ar k ss ▷ (λ j. defaults ar j is)
 defaults ar k (i ∷ is) = defaults ar k is
@@ -124,21 +123,22 @@ signal_made ar k n s x =
 -- a signal by its name in the unit
 abbrev pub signal_named : Around → Path → Skews → List Sided → Name → Checked Made_signal
 signal_named ar p k ds n =
-    meaning ar n where_also kind_stands ar 46 n.at is_object_kind n.text ▷ (λ x. given (λ s. signal_made ar k n s x) (signal_of_named ar.unit p n ds x))
+    meaning ar n where_also kind_stands ar 46 n.at is_object_kind n.text
+    ▷ (λ x. given (λ s. signal_made ar k n s x) (signal_of_named ar.unit p n ds x))
 
 -- the signals of one item
-abbrev pub item_signals : Around → Path → Skews → tree_unit.ClockingItem → Checked (List Made_signal)
+abbrev pub item_signals : Around → Path → Skews → ClockingItem → Checked (List Made_signal)
 item_signals ar p k (tree_unit.Default ss) = Good []
 item_signals ar p k (tree_unit.Signals ds ns) =
     with_skews ar k ds ▷ (λ j. each (signal_named ar p j ds) ns) where_also only (each (signal_named ar p k ds) ns)
 
 -- all signals, in order
-abbrev pub signals_of : Around → Path → Skews → List tree_unit.ClockingItem → Checked (List Made_signal)
+abbrev pub signals_of : Around → Path → Skews → List ClockingItem → Checked (List Made_signal)
 signals_of ar p k [] = Good []
 signals_of ar p k (i ∷ is) = given (λ q. q.0 ++ q.1) (both (item_signals ar p k i) (signals_of ar p k is))
 
 -- the names of the signals
-abbrev pub names_in : tree_unit.ClockingItem → List Name
+abbrev pub names_in : ClockingItem → List Name
 names_in (tree_unit.Default ss) = []
 names_in (tree_unit.Signals ds ns) = ns
 
@@ -200,27 +200,31 @@ side_of true = Reactive
 side_of false = Active
 
 -- a clocking block of the flat design
-abbrev pub clocking_made : Around → Path → Name → EdgeWord → Name → List (Checked SignalInfo) → Path → List Made_signal → Made_clocking
-clocking_made ar p n g e infos event ss =
+abbrev pub clocking_made : Around → Path → ClockingBlock → List (Checked SignalInfo) → Path → List Made_signal → Made_clocking
+clocking_made ar p b infos event ss =
     record {
       path = p;
       drives = flat_map (λ s. s.drives) ss;
       samples = sample_objects ar infos;
       clocking = λ before. record {
-        at = n.at;
+        at = b.name.at;
         side = side_of ar.is_program;
         event = ar.numbers.object event;
-        event_at = e.at;
-        edge = edge_of g;
+        event_at = b.event.at;
+        edge = edge_of b.edge;
         signals = signals_after before ss;
       };
     }
 
--- E5, E45, E46: a clocking block
-abbrev pub clocking_of : Around → Path → Name → EdgeWord → Name → List tree_unit.ClockingItem → Option Name → Checked Made_clocking
-clocking_of ar p n g e is label =
-    given (λ q. clocking_made ar p n g e (Rattle.sv_names.specs.Scopes.signals_in ar p is) q.0 q.1)
-    (both (meaning ar e where_also kind_stands ar 45 e.at is_object_kind e.text ▷ event_object e) (defaults ar usual_skews is ▷ (λ k. signals_of ar p k is)))
-    where_also only (signals_of ar p usual_skews is)
-    where_also signals_differ [] (flat_map names_in is)
-    where_also end_label (Some n) label
+-- E45: the object that the event of a block is of
+abbrev pub event_of : Around → Name → Checked Path
+event_of ar n = meaning ar n where_also kind_stands ar 45 n.at is_object_kind n.text ▷ event_object n
+
+-- E5, E45, E46: a clocking block; `p` is its path
+abbrev pub clocking_of : Around → Path → ClockingBlock → Checked Made_clocking
+clocking_of ar p b =
+    given (λ q. clocking_made ar p b (signals_in ar p b.items) q.0 q.1)
+    (both (event_of ar b.event) (defaults ar usual_skews b.items ▷ (λ k. signals_of ar p k b.items)))
+    where_also only (signals_of ar p usual_skews b.items)
+    where_also signals_differ [] (flat_map names_in b.items)
+    where_also end_label (Some b.name) b.label

@@ -17,12 +17,14 @@ use Rattle.sv_flat.specs.Expr as flat
 use Rattle.sv_tree.specs.declared.word.Name.{Name}
 use Rattle.sv_tree.specs.Expr as tree
 use Rattle.sv_tree.specs.Expr.{place_of}
+use Rattle.sv_tree.specs.declared.expr.Root.TheVariants as root
 use Rattle.sv_tree.specs.Units as tree_unit
-use Rattle.sv_tree.specs.Units.{Program, Connection}
+use Rattle.sv_tree.specs.Units.{Connection}
+use Rattle.sv_tree.specs.Items.{DesignElement}
 use Rattle.sv_names.specs.declared.typed.How.TheVariants.{Continuous}
 use Rattle.sv_names.specs.declared.checked.Checked.{Checked}
 use Rattle.sv_names.specs.declared.checked.Checked.TheVariants.{Good, Broken}
-use Rattle.sv_names.specs.declared.ty.Ty.{Ty}
+use Rattle.sv_names.specs.declared.ty.Ty.TheVariants.{Nothing}
 use Rattle.sv_names.specs.declared.hoisted.Hoisted.{Hoisted}
 use Rattle.sv_names.specs.declared.typed.Typed.{Typed}
 use Rattle.sv_names.specs.declared.named.Named.{Named}
@@ -30,14 +32,15 @@ use Rattle.sv_names.specs.declared.named.Named.TheVariants.{Variable, Net, Input
 use Rattle.sv_names.specs.declared.typed.Begin.{Begin}
 use Rattle.sv_names.specs.declared.typed.Begin.TheVariants.{Variable as A_variable, Net as A_net, Value as A_value}
 use Rattle.sv_names.specs.Checked.{both, ◌▷◌, given, broken_at, rule, fine, ◌where_also◌, only}
-use Rattle.sv_names.specs.Types.{Path, same_bytes, among, is_container}
+use Rattle.sv_names.specs.Types.{Path, same_bytes, among}
 use Rattle.sv_names.specs.Hoisted.{mapped, paired, in_row}
-use Rattle.sv_names.specs.Named.{Around, in_known, kind_stands, is_object_kind}
+use Rattle.sv_names.specs.Named.{Around, found, in_known, kind_stands, is_object_kind}
 use Rattle.sv_names.specs.Values.{assigned}
 use Rattle.sv_names.specs.Targets.{Spot, lvalue, type_of_target}
 use Rattle.sv_names.specs.Things.{object_typed}
 use Rattle.sv_names.specs.Expressions.{expr, target, target_in}
 use Rattle.sv_names.specs.Code.{Numbered, Code, single, as_routine}
+use Rattle.sv_names.specs.Assignments.{place_of_lval}
 use Rattle.sv_names.specs.Watched.{operands_of, body_from, object_of, on_change}
 use Rattle.sv_names.specs.Clockings.{times_in}
 use Rattle.sv_names.specs.Writers.{with_new}
@@ -90,7 +93,8 @@ watched_by n p = map on_change (filter is_of_object (operands_of (body_from n p.
 
 -- a process of an assignment or a connection
 abbrev pub process_of : Around → Place → ProcessKind → List Watch → RoutineId → Process
-process_of ar at k ws r = record { at = at; path = ar.unit; kind = k; side = Active; program = None; body = r; watched = ws }
+process_of ar at k ws r =
+    record { at = at; path = ar.unit; kind = k; side = Active; program = None; body = r; watched = ws }
 
 -- a process whose body is one assignment
 abbrev pub assigning : Around → Place → ProcessKind → Code → Numbered Process
@@ -116,17 +120,13 @@ abbrev pub continuous : Around → Place → ProcessKind → Checked (List Spot)
 continuous ar at k target pv value =
     both target value ▷ (λ p. given (made_of ar at k p.0) (continuous_value ar pv p.0 p.1))
 
--- the first token of a target
-abbrev pub place_of_lval : tree.Lval → Place
-place_of_lval (tree.Lval.Post r s) = tree.place_of_root r
-place_of_lval (tree.Lval.Join at ls) = at
-
--- an `assign`
+-- an `assign` (10.3.2)
 abbrev pub assign_made : Around → tree_unit.AssignItem → Checked Made
 assign_made ar a =
-    continuous ar (place_of_lval a.target) process_kind.Assign (target Continuous ar a.target) (place_of a.value) (expr ar a.value)
+    continuous ar (place_of_lval a.target) process_kind.Assign (target Continuous ar a.target)
+    (place_of a.value) (expr ar a.value)
 
--- a net declaration with a value counts as an `assign`
+-- a net declaration with a value counts as an `assign` (10.3.1)
 abbrev pub net_made : Around → tree_unit.NetItem → Checked (List Made)
 net_made ar x = of_value x.value
   where
@@ -134,7 +134,7 @@ net_made ar x = of_value x.value
     of_value None = Good []
     of_value (Some e) =
         given (λ m. m ∷ [])
-        (continuous ar x.name.at process_kind.Assign (target Continuous ar (tree.Lval.Post (Rattle.sv_tree.specs.declared.expr.Root.TheVariants.Plain x.name) tree.NoSuffix))
+        (continuous ar x.name.at process_kind.Assign (target Continuous ar (tree.Lval.Post (root.Plain x.name) tree.NoSuffix))
         (place_of e) (expr ar e))
 
 -- ---- what is connected to a port
@@ -153,7 +153,8 @@ linked_to x names k (tree_unit.Connection.Value e ∷ cs) = found (slice_get nam
     found : Option (List ℕ) → Option Linked → Option Linked
     found None rest = rest
     found (Some y) rest = if same_bytes x y then Some (To_expr (place_of e) e) else rest
-linked_to x names k (tree_unit.Named at n ∷ cs) = if same_bytes x n.text then Some (To_same at n.at) else linked_to x names (k + 1) cs
+linked_to x names k (tree_unit.Named at n ∷ cs) =
+    if same_bytes x n.text then Some (To_same at n.at) else linked_to x names (k + 1) cs
 linked_to x names k (tree_unit.Given at n e ∷ cs) =
     if same_bytes x n.text then option_map (To_expr at) e else linked_to x names (k + 1) cs
 linked_to x names k (tree_unit.All at ∷ cs) = linked_to x names (k + 1) cs
@@ -177,7 +178,7 @@ is_given x names k (tree_unit.Given at n e ∷ cs) = same_bytes x n.text || is_g
 is_given x names k (tree_unit.All at ∷ cs) = is_given x names (k + 1) cs
 
 -- by its place or name, else by `.*`
-abbrev pub linked_port : Program → List Connection → PortInfo → Option Linked
+abbrev pub linked_port : DesignElement → List Connection → PortInfo → Option Linked
 linked_port u cs p =
     if is_given p.name.text (port_names u) 0 cs then linked_to p.name.text (port_names u) 0 cs else star_of cs
 
@@ -195,7 +196,8 @@ seen_with (Some x) seen = x ∷ seen
 abbrev pub connections_fit : List (List ℕ) → List (List ℕ) → ℕ → List Connection → Checked (Unit {0})
 connections_fit names seen k [] = fine
 connections_fit names seen k (tree_unit.Connection.Value e ∷ cs) =
-    connects names seen (place_of e) (slice_get names k) where_also connections_fit names (seen_with (slice_get names k) seen) (k + 1) cs
+    connects names seen (place_of e) (slice_get names k)
+    where_also connections_fit names (seen_with (slice_get names k) seen) (k + 1) cs
 connections_fit names seen k (tree_unit.Named at n ∷ cs) =
     connects names seen at (Some n.text) where_also connections_fit names (n.text ∷ seen) (k + 1) cs
 connections_fit names seen k (tree_unit.Given at n e ∷ cs) =
@@ -217,7 +219,7 @@ port_thing ar at (Variable p t) = object_typed ar at p t (A_variable p)
 port_thing ar at (Net p t) = object_typed ar at p t (A_net p)
 port_thing ar at (Input p true t) = object_typed ar at p t (A_net p)
 port_thing ar at (Input p false t) = object_typed ar at p t (A_variable p)
-port_thing ar at n = object_typed ar at [] Rattle.sv_names.specs.declared.ty.Ty.TheVariants.Nothing A_value
+port_thing ar at n = object_typed ar at [] Nothing A_value
 
 -- what a port stands for in its unit
 abbrev pub port_known : Inst → PortInfo → Checked Named
@@ -236,7 +238,7 @@ is_object at n = broken_at 9 at
 
 -- the object of the same name
 abbrev pub finds_object : Around → Place → Name → Checked (Unit {0})
-finds_object ar at n = told (Rattle.sv_names.specs.Named.found ar n.text)
+finds_object ar at n = told (found ar n.text)
   where
     told : Option (Checked Named) → Checked (Unit {0})
     told None = broken_at 9 at
@@ -272,7 +274,7 @@ link_of ar c p (Some (To_same at an)) =
 
 -- the process of a port connection
 abbrev pub port_link : Around → Inst → List Connection → PortInfo → Checked (List Made)
-port_link ar c cs p = link_of ar c p (linked_port c.unit cs p)
+port_link ar c cs p = link_of ar c p (linked_port c.unit.element cs p)
 
 -- the target that an output writes
 abbrev pub output_target : PortInfo → Option Linked → Option tree.Expr

@@ -1,10 +1,12 @@
--- Units, their ports and parameters, and the walk of the instances (IEEE 1800-2017, 23).
+-- Modules and programs, their ports and parameters, and the walk of the instances (IEEE 1800-2017, 23 and 24.3).
 use Rattle.std.specs.Prelude.{ℕ, zero, suc, ◌+◌, ◌^◌, Bool, true, false, not, List, [], ◌∷◌, ◌++◌, length, Option, Some, None, if◌then◌else◌, map, flat_map, filter, slice_get}
 use Rattle.sv_value.specs.declared.place.Place.{Place}
 use Rattle.sv_flat.specs.declared.design.Scale.{Scale}
 use Rattle.sv_tree.specs.declared.word.Name.{Name}
-use Rattle.sv_tree.specs.declared.word.Direction.{Direction}
-use Rattle.sv_tree.specs.declared.word.Direction.TheVariants as direction
+use Rattle.sv_tree.specs.declared.word.PortDirection.{PortDirection}
+use Rattle.sv_tree.specs.declared.word.PortDirection.TheVariants as direction
+use Rattle.sv_tree.specs.declared.word.ParamWord.{ParamWord}
+use Rattle.sv_tree.specs.declared.word.ParamWord.TheVariants.{Parameter, Localparam}
 use Rattle.sv_tree.specs.declared.expr.Root.TheVariants as root
 use Rattle.sv_tree.specs.Expr as tree
 use Rattle.sv_tree.specs.Expr.{place_of}
@@ -12,7 +14,10 @@ use Rattle.sv_tree.specs.Types as tree_type
 use Rattle.sv_tree.specs.Types.{ImpliedType}
 use Rattle.sv_tree.specs.declared.class.Qualifiers.{Qualifiers}
 use Rattle.sv_tree.specs.Units as tree_unit
-use Rattle.sv_tree.specs.Units.{Program, Item, Description, Connection, Param}
+use Rattle.sv_tree.specs.Units.{Connection, Param}
+use Rattle.sv_tree.specs.Items as tree_item
+use Rattle.sv_tree.specs.Items.{Item, DesignElement}
+use Rattle.sv_tree.specs.Descriptions.{Description}
 use Rattle.sv_names.specs.declared.around.Dollar.TheVariants.{NoDollar as No_dollar}
 use Rattle.sv_names.specs.declared.around.Returns.TheVariants.{Outside}
 use Rattle.sv_names.specs.declared.checked.Checked.{Checked}
@@ -35,26 +40,28 @@ pub record PortInfo : Type 0 where
   pub has_type : Bool
 
 -- whether it is an input
-abbrev pub is_input_word : Direction → Bool
+abbrev pub is_input_word : PortDirection → Bool
 is_input_word direction.Input = true
-is_input_word _ = false
+is_input_word direction.Output = false
 
 -- a port without direction takes direction and type of the one before
 abbrev pub ports_from : Bool → Bool → ImpliedType → List tree_unit.Port → List PortInfo
 ports_from input wire t [] = []
 ports_from input wire t (p ∷ ps) = taken p.direction (λ i w u. ports_from i w u ps)
   where
-    taken : Option Direction → (Bool → Bool → ImpliedType → List PortInfo) → List PortInfo
-    taken None rest = record { name = p.name; is_input = input; is_wire = wire; type = t; has_type = false } ∷ rest input wire t
+    taken : Option PortDirection → (Bool → Bool → ImpliedType → List PortInfo) → List PortInfo
+    taken None rest =
+        record { name = p.name; is_input = input; is_wire = wire; type = t; has_type = false } ∷ rest input wire t
     taken (Some d) rest =
-        record { name = p.name; is_input = is_input_word d; is_wire = p.is_net; type = p.type; has_type = true } ∷ rest (is_input_word d) p.is_net p.type
+        record { name = p.name; is_input = is_input_word d; is_wire = p.is_net; type = p.of; has_type = true }
+        ∷ rest (is_input_word d) p.is_net p.of
 
 -- the ports of a unit
-abbrev pub ports_of : Program → List PortInfo
+abbrev pub ports_of : DesignElement → List PortInfo
 ports_of u = ports_from true false tree_type.Unwritten u.ports
 
 -- their names
-abbrev pub port_names : Program → List (List ℕ)
+abbrev pub port_names : DesignElement → List (List ℕ)
 port_names u = map (λ p. p.name.text) (ports_of u)
 
 -- ---- what a unit declares
@@ -68,11 +75,16 @@ abbrev pub given_or : Source → List ℕ → Givens → Source
 given_or own x [] = own
 given_or own x (g ∷ gs) = if same_bytes x g.0 then g.1 else given_or own x gs
 
+-- a `localparam` keeps its own value
+abbrev pub param_source : ParamWord → tree.Expr → List ℕ → Givens → Source
+param_source Parameter own x gs = given_or (Own own) x gs
+param_source Localparam own x gs = Own own
+
 -- parameters as declarations
 abbrev pub param_entries : Givens → Param → List Entry
 param_entries gs p =
-    items_in_implied p.type
-    ++ map (λ x. entry x.name (A_parameter p.type (if p.is_local then Own x.value else given_or (Own x.value) x.name.text gs))) p.names
+    items_in_implied p.of
+    ++ map (λ x. entry x.name (A_parameter p.of (param_source p.word x.value x.name.text gs))) p.names
 
 -- no qualifier is written
 abbrev pub no_qualifiers : Qualifiers
@@ -80,20 +92,20 @@ no_qualifiers = record { is_local = false; is_protected = false; is_static = fal
 
 -- what an item declares
 abbrev pub item_entries : Path → Givens → Item → List Entry
-item_entries p gs (tree_item.Decl d) = items_in d.type ++ declarator_entries A_variable d.type d.names
-item_entries p gs (tree_item.Net at g r ns) = map (λ x. entry x.name (A_net g r)) ns
-item_entries p gs (tree_item.Typedef w n) = items_in w ++ entry n (A_type w) ∷ []
+item_entries p gs (tree_item.Decl d) = items_in d.of ++ declarator_entries A_variable d.of d.names
+item_entries p gs (tree_item.Net n) = map (λ x. entry x.name (A_net n.sign n.range)) n.names
+item_entries p gs (tree_item.Typedef t) = items_in t.of ++ entry t.name (A_type t.of) ∷ []
 item_entries p gs (tree_item.Announce n) = entry n An_announcement ∷ []
 item_entries p gs (tree_item.Class c) = entry c.name (A_class (p ++ c.name.text ∷ [])) ∷ []
 item_entries p gs (tree_item.Param q) = param_entries gs q
 item_entries p gs (tree_item.Routine r) = entry r.head.name (A_subroutine no_qualifiers false None r) ∷ []
-item_entries p gs (tree_item.Instances u ps is) = map (λ i. entry i.name Another) is
-item_entries p gs (tree_item.Procedure at k x) = blocks x
-item_entries p gs (tree_item.Clocking d n g e is label) = entry n (A_clocking is) ∷ []
+item_entries p gs (tree_item.Instances x) = map (λ i. entry i.name Another) x.list
+item_entries p gs (tree_item.Procedure q) = blocks q.body
+item_entries p gs (tree_item.Clocking b) = entry b.name (A_clocking b.items) ∷ []
 item_entries p gs _ = []
 
 -- the parameters before the ports
-abbrev pub params_of : Program → List Param
+abbrev pub params_of : DesignElement → List Param
 params_of u = found u.params
   where
     found : Option (List Param) → List Param
@@ -101,7 +113,7 @@ params_of u = found u.params
     found (Some ps) = ps
 
 -- the parameters of a body can be set only where there are none before the ports
-abbrev pub body_givens : Program → Givens → Givens
+abbrev pub body_givens : DesignElement → Givens → Givens
 body_givens u gs = found u.params
   where
     found : Option (List Param) → Givens
@@ -114,34 +126,48 @@ port_entry p =
     (if p.has_type then items_in_implied p.type else []) ++ entry p.name (A_port p.is_input p.is_wire p.type) ∷ []
 
 -- all that a unit declares
-abbrev pub unit_entries : Path → Program → Givens → List Entry
+abbrev pub unit_entries : Path → DesignElement → Givens → List Entry
 unit_entries p u gs =
     flat_map (param_entries gs) (params_of u) ++ flat_map port_entry (ports_of u)
     ++ flat_map (item_entries p (body_givens u gs)) u.items
 
--- ---- units
+-- ---- modules and programs
 
--- the first unit of a name
-abbrev pub program_named : List ℕ → List Description → Option Program
-program_named x [] = None
-program_named x (Description.Item i ∷ us) = program_named x us
-program_named x (unit.Instantiable p ∷ us) = if same_bytes x p.name.text then Some p else program_named x us
+-- a module or a program
+pub record Definition : Type 0 where
+  pub is_program : Bool
+  pub element : DesignElement
 
--- the units
-abbrev pub programs : List Description → List Program
-programs [] = []
-programs (Description.Item i ∷ us) = programs us
-programs (unit.Instantiable p ∷ us) = p ∷ programs us
+-- its name
+abbrev pub name_of : Definition → Name
+name_of u = u.element.name
 
--- the items outside units
+-- all modules and programs
+abbrev pub definitions : List Description → List Definition
+definitions [] = []
+definitions (Description.Module e ∷ us) = record { is_program = false; element = e } ∷ definitions us
+definitions (Description.Program e ∷ us) = record { is_program = true; element = e } ∷ definitions us
+definitions (Description.Item i ∷ us) = definitions us
+
+-- the first of a name
+abbrev pub first_named : List ℕ → List Definition → Option Definition
+first_named x [] = None
+first_named x (u ∷ us) = if same_bytes x (name_of u).text then Some u else first_named x us
+
+-- the first module or program of a name
+abbrev pub definition_named : List ℕ → List Description → Option Definition
+definition_named x us = first_named x (definitions us)
+
+-- the items outside modules and programs
 abbrev pub outside : List Description → List Item
 outside [] = []
 outside (Description.Item i ∷ us) = i ∷ outside us
-outside (unit.Instantiable p ∷ us) = outside us
+outside (u ∷ us) = outside us
 
--- what a unit or an item outside declares
+-- what a description declares
 abbrev pub description_entries : Description → List Entry
-description_entries (unit.Instantiable p) = entry p.name Another ∷ []
+description_entries (Description.Module e) = entry e.name Another ∷ []
+description_entries (Description.Program e) = entry e.name Another ∷ []
 description_entries (Description.Item i) = item_entries [] [] i
 
 -- what the files declare
@@ -150,36 +176,36 @@ file_entries us = flat_map description_entries us
 
 -- the unit that an item instantiates
 abbrev pub used_names : Item → List (List ℕ)
-used_names (tree_item.Instances u ps is) = u.text ∷ []
+used_names (tree_item.Instances x) = x.of.text ∷ []
 used_names _ = []
 
 -- the units that are instantiated
 abbrev pub all_used : List Description → List (List ℕ)
-all_used us = flat_map (λ p. flat_map used_names p.items) (programs us)
+all_used us = flat_map (λ u. flat_map used_names u.element.items) (definitions us)
 
 -- only the first of two units of one name can be instantiated
-abbrev pub first_of_name : List (List ℕ) → List Program → List Program
+abbrev pub first_of_name : List (List ℕ) → List Definition → List Definition
 first_of_name seen [] = []
-first_of_name seen (p ∷ ps) =
-    if among p.name.text seen then first_of_name seen ps else p ∷ first_of_name (p.name.text ∷ seen) ps
+first_of_name seen (u ∷ us) =
+    if among (name_of u).text seen then first_of_name seen us else u ∷ first_of_name ((name_of u).text ∷ seen) us
 
 -- the units that are nowhere instantiated, or the one that is named
-abbrev pub roots : List Description → Option (List ℕ) → List Program
-roots us None = first_of_name [] (filter (λ p. not (among p.name.text (all_used us))) (programs us))
-roots us (Some top) = found (program_named top us)
+abbrev pub roots : List Description → Option (List ℕ) → List Definition
+roots us None = first_of_name [] (filter (λ u. not (among (name_of u).text (all_used us))) (definitions us))
+roots us (Some top) = found (definition_named top us)
   where
-    found : Option Program → List Program
+    found : Option Definition → List Definition
     found None = []
-    found (Some p) = p ∷ []
+    found (Some u) = u ∷ []
 
 -- the first place of the first file
 abbrev pub first_place : Place
 first_place = record { file = 0; line = 1; col = 1 }
 
--- E4
-abbrev pub some_root : List Program → Checked (Unit {0})
+-- E4: there is a root
+abbrev pub some_root : List Definition → Checked (Unit {0})
 some_root [] = broken_at 4 first_place
-some_root (p ∷ ps) = fine
+some_root (u ∷ us) = fine
 
 -- ---- where something stands
 
@@ -218,7 +244,7 @@ nowhere_around ns s =
 -- an instance, with its settled scope
 pub record Inst : Type 0 where
   pub path : Path
-  pub unit : Program
+  pub unit : Definition
   pub at : Place
   -- the units that it stands in, itself among them
   pub chain : List (List ℕ)
@@ -235,13 +261,17 @@ pub data Walked : Type 0 where
   -- the instance that passes the limit
   Pass : Place → Walked
 
--- the names of the parameters that an instance can give
+-- the names of the parameters of a body that an instance can give
 abbrev pub body_params : Item → List (List ℕ)
-body_params (tree_item.Param p) = if p.is_local then [] else map (λ x. x.name.text) p.names
+body_params (tree_item.Param p) = of_word p.word
+  where
+    of_word : ParamWord → List (List ℕ)
+    of_word Parameter = map (λ x. x.name.text) p.names
+    of_word Localparam = []
 body_params _ = []
 
 -- the parameters that an instance can give
-abbrev pub param_names : Program → List (List ℕ)
+abbrev pub param_names : DesignElement → List (List ℕ)
 param_names u = found u.params
   where
     found : Option (List Param) → List (List ℕ)
@@ -264,7 +294,8 @@ givens_from ar names k (tree_unit.Connection.Value e ∷ cs) = found (slice_get 
     found : Option (List ℕ) → Givens → Givens
     found None gs = gs
     found (Some x) gs = (x, value_given ar e) ∷ gs
-givens_from ar names k (tree_unit.Named at n ∷ cs) = (n.text, value_given ar (plain_name n)) ∷ givens_from ar names (k + 1) cs
+givens_from ar names k (tree_unit.Named at n ∷ cs) =
+    (n.text, value_given ar (plain_name n)) ∷ givens_from ar names (k + 1) cs
 givens_from ar names k (tree_unit.Given at n None ∷ cs) = givens_from ar names (k + 1) cs
 givens_from ar names k (tree_unit.Given at n (Some e) ∷ cs) = (n.text, value_given ar e) ∷ givens_from ar names (k + 1) cs
 givens_from ar names k (tree_unit.All at ∷ cs) = givens_from ar names (k + 1) cs
@@ -301,55 +332,57 @@ counted at go (suc n) = go n
 
 module _ (units : List Description) (files : Around) where
   -- what stands around a unit
-  abbrev pub around_unit : Program → Path → Around
+  abbrev pub around_unit : Definition → Path → Around
   around_unit u p =
-      record files { unit = p; is_program = u.is_program; is_automatic = is_automatic_life false u.life }
+      record files { unit = p; is_program = u.is_program; is_automatic = is_automatic_life false u.element.life }
 
   -- an instance with these declarations
-  abbrev pub inst_with : Path → List (List ℕ) → Place → Program → List Entry → List Head → Inst
+  abbrev pub inst_with : Path → List (List ℕ) → Place → Definition → List Entry → List Head → Inst
   inst_with p chain at u es hs =
       record {
         path = p;
         unit = u;
         at = at;
-        chain = u.name.text ∷ chain;
+        chain = (name_of u).text ∷ chain;
         entries = es;
         heads = hs;
         group = settled_group (around_unit u p) p es hs;
       }
 
   -- an instance of a unit
-  abbrev pub inst_of : Path → List (List ℕ) → Place → Program → Givens → Inst
+  abbrev pub inst_of : Path → List (List ℕ) → Place → Definition → Givens → Inst
   inst_of p chain at u gs =
-      inst_with p chain at u (unit_entries p u gs) (heads_of p (unit_entries p u gs) (file_entries units) u.items)
+      inst_with p chain at u (unit_entries p u.element gs)
+      (heads_of p (unit_entries p u.element gs) (file_entries units) u.element.items)
 
   -- constants speak of no object, so the walk needs no numbers
   abbrev pub within_inst : Inst → Around
   within_inst i = in_group i.group (around_unit i.unit i.path)
 
   -- an instance in another
-  abbrev pub child : Inst → Program → List Connection → tree_unit.Instance → Inst
-  child i u ps x = inst_of (i.path ++ x.name.text ∷ []) i.chain x.name.at u (givens_from (within_inst i) (param_names u) 0 ps)
+  abbrev pub child : Inst → Definition → List Connection → tree_unit.Instance → Inst
+  child i u ps x =
+      inst_of (i.path ++ x.name.text ∷ []) i.chain x.name.at u (givens_from (within_inst i) (param_names u.element) 0 ps)
 
   -- its connections, and then the instance itself
   abbrev pub enter_child : (Inst → Walk) → Inst → List Connection → Inst → Walk
   enter_child go i cs c = meets (Connect i c cs) (go c)
 
   -- the instances of one item
-  abbrev pub children : (Inst → Walk) → Inst → Program → List Connection → List tree_unit.Instance → Walk
+  abbrev pub children : (Inst → Walk) → Inst → Definition → List Connection → List tree_unit.Instance → Walk
   children go i u ps [] = stays
   children go i u ps (x ∷ xs) =
       and_then (counted x.name.at (λ n. enter_child go i x.connections (child i u ps x) n)) (children go i u ps xs)
 
   -- E2, E3: what has no unit, or contains itself, is not walked
-  abbrev pub instances_walk : (Inst → Walk) → Inst → Name → List Connection → List tree_unit.Instance → Option Program → Walk
-  instances_walk go i n ps is None = stays
-  instances_walk go i n ps is (Some u) = if among n.text i.chain then stays else children go i u ps is
+  abbrev pub instances_walk : (Inst → Walk) → Inst → tree_unit.Instances → Option Definition → Walk
+  instances_walk go i x None = stays
+  instances_walk go i x (Some u) = if among x.of.text i.chain then stays else children go i u x.params x.list
 
   -- an item, with the instances in it
   abbrev pub item_walk : (Inst → Walk) → Inst → Item → Walk
-  item_walk go i (tree_item.Instances n ps is) =
-      meets (Meet i (tree_item.Instances n ps is)) (instances_walk go i n ps is (program_named n.text units))
+  item_walk go i (tree_item.Instances x) =
+      meets (Meet i (tree_item.Instances x)) (instances_walk go i x (definition_named x.of.text units))
   item_walk go i item = meets (Meet i item) stays
 
   -- the items in source order
@@ -360,16 +393,16 @@ module _ (units : List Description) (files : Around) where
   -- items in source order; at an instance its own items
   abbrev pub walk : ℕ → Inst → Walk
   walk zero i = stays
-  walk (suc k) i = meets (Enter i) (items_walk (λ c. walk k c) i i.unit.items)
+  walk (suc k) i = meets (Enter i) (items_walk (λ c. walk k c) i i.unit.element.items)
 
   -- a root
-  abbrev pub root_inst : Program → Inst
-  root_inst u = inst_of (u.name.text ∷ []) [] u.name.at u []
+  abbrev pub root_inst : Definition → Inst
+  root_inst u = inst_of ((name_of u).text ∷ []) [] (name_of u).at u []
 
   -- the roots in source order
-  abbrev pub roots_walk : ℕ → List Program → Walk
+  abbrev pub roots_walk : ℕ → List Definition → Walk
   roots_walk k [] = stays
-  roots_walk k (u ∷ us) = and_then (counted u.name.at (λ n. walk k (root_inst u) n)) (roots_walk k us)
+  roots_walk k (u ∷ us) = and_then (counted (name_of u).at (λ n. walk k (root_inst u) n)) (roots_walk k us)
 
   -- no chain of units is longer than the number of all
   abbrev pub walked : Option (List ℕ) → List Walked

@@ -5,15 +5,20 @@ use Rattle.sv_tree.specs.declared.word.Name.{Name}
 use Rattle.sv_tree.specs.Expr as tree
 use Rattle.sv_tree.specs.Stmt as tree_stmt
 use Rattle.sv_tree.specs.Units as tree_unit
+use Rattle.sv_tree.specs.Classes as tree_class
+use Rattle.sv_tree.specs.Items as tree_item
+use Rattle.sv_tree.specs.Items.{Item}
 use Rattle.sv_tree.specs.declared.class.Qualifiers.{Qualifiers}
-use Rattle.sv_tree.specs.Units.{Item, Connection}
 use Rattle.sv_names.specs.declared.typed.How.TheVariants.{Continuous}
 use Rattle.sv_names.specs.declared.around.ClassInfo.{ClassInfo}
 use Rattle.sv_names.specs.declared.checked.Checked.{Checked}
 use Rattle.sv_names.specs.declared.checked.Checked.TheVariants.{Good, Broken}
 use Rattle.sv_names.specs.declared.scope.Scope.{Scope}
+use Rattle.sv_names.specs.declared.ty.Ty.{Ty}
+use Rattle.sv_names.specs.declared.ty.Ty.TheVariants.{Nothing}
 use Rattle.sv_names.specs.declared.named.Named.{Named}
 use Rattle.sv_names.specs.declared.named.Named.TheVariants.{Property, StaticProperty as Static_property}
+use Rattle.sv_names.specs.declared.named.Callee.{Callee}
 use Rattle.sv_names.specs.declared.named.SignalInfo.{SignalInfo}
 use Rattle.sv_names.specs.Checked.{given, fine, broken_at, ◌where_also◌}
 use Rattle.sv_names.specs.Types.{Path}
@@ -22,23 +27,27 @@ use Rattle.sv_names.specs.Expressions.{as_expr}
 use Rattle.sv_names.specs.Entries.{has_result, is_static_method, is_constructor, subroutine_is_automatic}
 use Rattle.sv_names.specs.Scopes.{callee_within, signals_in}
 use Rattle.sv_names.specs.Groups.{in_class}
-use Rattle.sv_names.specs.Assignments.{place_of_init}
+use Rattle.sv_names.specs.Assignments.{place_of_init, place_of_lval}
 use Rattle.sv_names.specs.Subroutines.{subroutine_scope, body_scope, in_body, returns_of, for_properties, constructor_path}
 use Rattle.sv_names.specs.Writers.{Touch, Writes, Calls, Declares, Writer, Continuously, No_process, Source, Table, writer_of, stmt_touches, stmts_touches, decls_touches, init_touches, target_touches, Initialized, declares, scope_declares, nearest_declares}
 use Rattle.sv_names.specs.Instances.{Inst, Walked, Enter, Meet, Connect, Pass, PortInfo, ports_of, no_qualifiers, plain_name}
 use Rattle.sv_names.specs.Groups.{Group}
-use Rattle.sv_names.specs.Connections.{Linked, To_expr, To_same, linked_port, output_target, place_of_lval}
+use Rattle.sv_names.specs.Connections.{Linked, To_expr, To_same, linked_port, output_target}
 
 -- ---- subroutines
 
+-- what is seen in the statements of a subroutine with this head
+abbrev pub within_routine : Around → Scope → Callee → Qualifiers → Option Path → tree_unit.Routine → Around
+within_routine ar s c q k r =
+    let auto : Bool = subroutine_is_automatic ar.is_automatic k r.head in
+    in_body ar (body_scope s c auto (has_result r.head)) auto (not (is_static_method q r.head)) true (returns_of (has_result r.head) c)
+
 -- what a subroutine declares, writes and calls
 abbrev pub scope_touches : Around → Scope → Qualifiers → Option Path → tree_unit.Routine → List Touch
-scope_touches ar s q k r =
-    within_body (in_body ar (body_scope s (callee_within ar s q false k r) (subroutine_is_automatic ar.is_automatic k r.head) (has_result r.head))
-    (subroutine_is_automatic ar.is_automatic k r.head) (not (is_static_method q r.head)) true (returns_of (has_result r.head) (callee_within ar s q false k r)))
+scope_touches ar s q k r = within (within_routine ar s (callee_within ar s q false k r) q k r)
   where
-    within_body : Around → List Touch
-    within_body i = nearest_declares i.scopes ++ decls_touches i r.decls ++ stmts_touches i r.body
+    within : Around → List Touch
+    within i = nearest_declares i.scopes ++ decls_touches i r.decls ++ stmts_touches i r.stmts
 
 -- the same by its path
 abbrev pub subroutine_touches : Around → Path → Qualifiers → Option Path → tree_unit.Routine → Path × List Touch
@@ -47,17 +56,17 @@ subroutine_touches ar p q k r = (p ++ r.head.name.text ∷ [], scope_touches ar 
 -- ---- classes
 
 -- the type that a property has
-abbrev pub type_of_property : Named → Rattle.sv_names.specs.declared.ty.Ty.Ty
+abbrev pub type_of_property : Named → Ty
 type_of_property (Property k g n t) = t
 type_of_property (Static_property k g p t) = t
-type_of_property n = Rattle.sv_names.specs.declared.ty.Ty.TheVariants.Nothing
+type_of_property n = Nothing
 
 -- the type of a property by its name
-abbrev pub property_type : ClassInfo → Name → Checked Rattle.sv_names.specs.declared.ty.Ty.Ty
+abbrev pub property_type : ClassInfo → Name → Checked Ty
 property_type k n = told (in_known 0 0 n.text k.scope.known)
   where
-    told : Option (Checked Named) → Checked Rattle.sv_names.specs.declared.ty.Ty.Ty
-    told None = Good Rattle.sv_names.specs.declared.ty.Ty.TheVariants.Nothing
+    told : Option (Checked Named) → Checked Ty
+    told None = Good Nothing
     told (Some c) = given type_of_property c
 
 -- what the initializer of a property does
@@ -70,7 +79,8 @@ property_touches i k x = of_init x.init
 
 -- those of an item
 abbrev pub initializer_touches : Around → ClassInfo → tree_class.ClassItem → List Touch
-initializer_touches i k (tree_class.Property q d) = if q.is_static then [] else flat_map (property_touches i k) d.names
+initializer_touches i k (tree_class.Property p) =
+    if p.qualifiers.is_static then [] else flat_map (property_touches i k) p.decl.names
 initializer_touches i k x = []
 
 -- the constructor of the base
@@ -84,18 +94,21 @@ opening_touches ar k is = base_touches k.base ++ flat_map (initializer_touches (
 
 -- what a written constructor does
 abbrev pub written_constructors : Around → ClassInfo → tree_class.ClassItem → List Touch
-written_constructors ar k (tree_class.Method q r) = if is_constructor r.head then (subroutine_touches ar k.path q (Some k.path) r).1 else []
+written_constructors ar k (tree_class.Method m) =
+    if is_constructor m.routine.head then (subroutine_touches ar k.path m.qualifiers (Some k.path) m.routine).1 else []
 written_constructors ar k i = []
 
 -- what a method does
 abbrev pub method_touches : Around → ClassInfo → tree_class.ClassItem → Table
-method_touches ar k (tree_class.Method q r) = if is_constructor r.head then [] else subroutine_touches ar k.path q (Some k.path) r ∷ []
+method_touches ar k (tree_class.Method m) =
+    if is_constructor m.routine.head then [] else subroutine_touches ar k.path m.qualifiers (Some k.path) m.routine ∷ []
 method_touches ar k i = []
 
 -- the subroutines of a class
 abbrev pub class_table : Around → ClassInfo → List tree_class.ClassItem → Table
 class_table ar k is =
-    (constructor_path k.path, opening_touches ar k is ++ flat_map (written_constructors ar k) is) ∷ flat_map (method_touches ar k) is
+    (constructor_path k.path, opening_touches ar k is ++ flat_map (written_constructors ar k) is)
+    ∷ flat_map (method_touches ar k) is
 
 -- of a class, if it is known
 abbrev pub named_class : Around → List tree_class.ClassItem → Option ClassInfo → Table
@@ -155,12 +168,12 @@ net_process ar x = of_value x.value
 
 -- the processes of an item
 abbrev pub item_processes : Around → Inst → Item → List Process
-item_processes ar i (tree_item.Procedure at k x) = process at (writer_of k) (stmt_touches ar x) ∷ []
+item_processes ar i (tree_item.Procedure p) = process p.at (writer_of p.word) (stmt_touches ar p.body) ∷ []
 item_processes ar i (tree_item.Assign as') =
     map (λ a. process (place_of_lval a.target) Continuously (target_touches Continuous ar (as_expr a.target))) as'
-item_processes ar i (tree_item.Clocking d n g e is l) =
-    process n.at No_process (flat_map signal_touches (signals_in ar (i.path ++ n.text ∷ []) is)) ∷ []
-item_processes ar i (tree_item.Net at g r ns) = flat_map (net_process ar) ns
+item_processes ar i (tree_item.Clocking b) =
+    process b.name.at No_process (flat_map signal_touches (signals_in ar (i.path ++ b.name.text ∷ []) b.items)) ∷ []
+item_processes ar i (tree_item.Net n) = flat_map (net_process ar) n.names
 item_processes ar i x = []
 
 -- each process with a number of its own
@@ -186,7 +199,7 @@ class_declares (Some k) = scope_declares k.scope
 -- what an item declares
 abbrev pub item_declares : Around → Group → Path → Item → List Touch
 item_declares ar g p (tree_item.Decl d) = flat_map (λ x. declared_in g x.name) d.names
-item_declares ar g p (tree_item.Net at s r ns) = flat_map (λ x. declared_in g x.name) ns
+item_declares ar g p (tree_item.Net n) = flat_map (λ x. declared_in g x.name) n.names
 item_declares ar g p (tree_item.Class c) = class_declares (class_in ar.classes (p ++ c.name.text ∷ []))
 item_declares ar g p x = []
 
@@ -200,7 +213,8 @@ pub record Met : Type 0 where
 
 -- what is met on the walk
 abbrev pub met : (Inst → Around) → Walked → Met
-met at_inst (Enter i) = record { declared = flat_map (λ p. declared_in i.group p.name) (ports_of i.unit); processes = []; table = [] }
+met at_inst (Enter i) =
+    record { declared = flat_map (λ p. declared_in i.group p.name) (ports_of i.unit.element); processes = []; table = [] }
 met at_inst (Meet i item) =
     record {
       declared = item_declares (at_inst i) i.group i.path item;
@@ -208,7 +222,11 @@ met at_inst (Meet i item) =
       table = item_table (at_inst i) i.path item;
     }
 met at_inst (Connect i c cs) =
-    record { declared = []; processes = flat_map (λ p. port_process (at_inst i) p (linked_port c.unit cs p)) (ports_of c.unit); table = [] }
+    record {
+      declared = [];
+      processes = flat_map (λ p. port_process (at_inst i) p (linked_port c.unit.element cs p)) (ports_of c.unit.element);
+      table = [];
+    }
 met at_inst (Pass at) = record { declared = []; processes = []; table = [] }
 
 -- an item outside units
@@ -246,7 +264,8 @@ at_most (suc n) (p ∷ ps) = at_most n ps
 -- the limits of a design
 abbrev pub limits_stand : List Met → Checked (Unit {0})
 limits_stand ms =
-    counted 0 0 (flat_map touches_in ms) where_also at_most (2 ^ 18) (filter is_first_process (flat_map (λ m. m.processes) ms))
+    counted 0 0 (flat_map touches_in ms)
+    where_also at_most (2 ^ 18) (filter is_first_process (flat_map (λ m. m.processes) ms))
 
 -- ---- initializers of variables
 

@@ -8,7 +8,7 @@ use Rattle.sv_tree.specs.declared.word.ProcedureWord.TheVariants as procedure
 use Rattle.sv_tree.specs.declared.word.Direction.{Direction}
 use Rattle.sv_tree.specs.declared.word.Direction.TheVariants as direction
 use Rattle.sv_tree.specs.Expr as tree
-use Rattle.sv_tree.specs.Expr.{place_of, place_of_root}
+use Rattle.sv_tree.specs.Expr.{place_of_root}
 use Rattle.sv_tree.specs.Stmt as tree_stmt
 use Rattle.sv_names.specs.declared.typed.How.{How}
 use Rattle.sv_names.specs.declared.typed.How.TheVariants.{Statement as By_statement, Nonblocking}
@@ -27,13 +27,12 @@ use Rattle.sv_names.specs.declared.typed.Begin.{Begin}
 use Rattle.sv_names.specs.declared.typed.Begin.TheVariants.{Variable as A_variable, StaticProperty as A_static_property}
 use Rattle.sv_names.specs.Checked.{given, rule, ◌where_also◌, all, place_before, same_place}
 use Rattle.sv_names.specs.Types.{Path, same_path, has_path, is_fixed, size_of_type}
-use Rattle.sv_names.specs.Named.{Around, class_in, line_of, is_derived, in_known, result_named}
+use Rattle.sv_names.specs.Named.{Around, meaning, is_derived, result_named}
 use Rattle.sv_names.specs.Targets.{Spot, type_of_target}
 use Rattle.sv_names.specs.Methods
-use Rattle.sv_names.specs.Methods.{Method}
 use Rattle.sv_names.specs.Formats.{Arg}
 use Rattle.sv_names.specs.Things.{Thing, A_subroutine, A_method, Its_result, root_thing, dollar_in}
-use Rattle.sv_names.specs.Expressions.{args, things, target, target_in, before_select, as_expr, with_dollar, System, Cast, system_of}
+use Rattle.sv_names.specs.Expressions.{args, actual_args, things, target, target_in, before_select, as_expr, with_dollar, System, Cast, system_of}
 use Rattle.sv_names.specs.Blocks.{inner_scope, inside, first_name, after_scopes, scopes_made}
 use Rattle.sv_names.specs.Statements.{block_entries, for_entries, foreach_entries, walked_array, automatic_loop}
 use Rattle.sv_names.specs.Subroutines.{constructor_path}
@@ -86,7 +85,8 @@ callee_touches c None direct = Calls c.path ∷ []
 callee_touches c (Some o) direct = by o.ty
   where
     by : Ty → List Touch
-    by (Class p) = if c.is_virtual && not direct && not c.is_static then Calls_virtual p c.name.text ∷ [] else Calls c.path ∷ []
+    by (Class p) =
+        if c.is_virtual && not direct && not c.is_static then Calls_virtual p c.name.text ∷ [] else Calls c.path ∷ []
     by t = Calls c.path ∷ []
 
 -- whether an argument is written
@@ -142,11 +142,12 @@ cast_touches Cast as' = first_target as'
 cast_touches s as' = []
 
 abbrev mutual
+  -- what an expression writes and calls
   pub expr_touches : Around → tree.Expr → List Touch
   expr_touches ar (tree.Group at e) = expr_touches ar e
   expr_touches ar (tree.Post r s) = suffix_touches ar (place_of_root r) (root_thing ar r) s
-  expr_touches ar (tree.System n a) = cast_touches (system_of n) (args ar es) ++ exprs_touches ar es
-  expr_touches ar (tree.SuperNew at new a) = exprs_touches ar es
+  expr_touches ar (tree.System n a) = cast_touches (system_of n) (actual_args ar a) ++ actuals_touches ar a
+  expr_touches ar (tree.SuperNew at new a) = actuals_touches ar a
   expr_touches ar (tree.Join at es) = exprs_touches ar es
   expr_touches ar (tree.Repeat at n inner es) = exprs_touches ar es
   expr_touches ar (tree.Cast c e) = expr_touches ar e
@@ -155,13 +156,21 @@ abbrev mutual
   expr_touches ar (tree.Choose c a b) = expr_touches ar c ++ expr_touches ar a ++ expr_touches ar b
   expr_touches ar e = []
 
+  -- what arguments write and call, where brackets are written
+  pub actuals_touches : Around → tree.Actuals → List Touch
+  actuals_touches ar tree.Unwritten = []
+  actuals_touches ar (tree.Written es) = exprs_touches ar es
+
+  -- what expressions write and call
   pub exprs_touches : Around → tree.Exprs → List Touch
   exprs_touches ar tree.NoExpr = []
   exprs_touches ar (tree.AndExpr e es) = expr_touches ar e ++ exprs_touches ar es
 
+  -- what follows a name writes and calls
   pub suffix_touches : Around → Place → Checked Thing → tree.Suffixes → List Touch
   suffix_touches ar pe th tree.NoSuffix = bare_touches th
-  suffix_touches ar pe th (tree.Member n rest) = bare_touches th ++ suffix_touches ar pe (things ar pe th (tree.Member n tree.NoSuffix)) rest
+  suffix_touches ar pe th (tree.Member n rest) =
+      bare_touches th ++ suffix_touches ar pe (things ar pe th (tree.Member n tree.NoSuffix)) rest
   suffix_touches ar pe th (tree.Call at es rest) =
       call_touches th (args ar es) ++ exprs_touches ar es
       ++ suffix_touches ar pe (things ar pe th (tree.Call at es tree.NoSuffix)) rest
@@ -169,7 +178,8 @@ abbrev mutual
       bare_touches th ++ expr_touches (with_dollar (dollar_in th) ar) i
       ++ suffix_touches ar pe (things ar pe th (tree.Select at i tree.NoSuffix)) rest
   suffix_touches ar pe th (tree.Part at w l r rest) =
-      bare_touches th ++ expr_touches ar l ++ suffix_touches ar pe (things ar pe th (tree.Part at w l r tree.NoSuffix)) rest
+      bare_touches th ++ expr_touches ar l
+      ++ suffix_touches ar pe (things ar pe th (tree.Part at w l r tree.NoSuffix)) rest
 
 -- of what may be left out
 abbrev pub optional_touches : Around → Option tree.Expr → List Touch
@@ -186,8 +196,7 @@ new_touches t = []
 -- of what is given to a variable
 abbrev pub init_touches : Around → Checked Ty → tree_stmt.Init → List Touch
 init_touches ar t (tree_stmt.Value e) = expr_touches ar e
-init_touches ar t (tree_stmt.New at) = new_touches t
-init_touches ar t (tree_stmt.NewWith at es) = exprs_touches ar es ++ new_touches t
+init_touches ar t (tree_stmt.New at a) = actuals_touches ar a ++ new_touches t
 init_touches ar t (tree_stmt.Copy at n) = []
 init_touches ar t (tree_stmt.Array at n o) = expr_touches ar n ++ optional_touches ar o
 
@@ -203,7 +212,7 @@ declarator_touches ar x = of_init x.init
   where
     of_init : Option tree_stmt.Init → List Touch
     of_init None = []
-    of_init (Some i) = init_touches ar (given variable_type (Rattle.sv_names.specs.Named.meaning ar x.name)) i
+    of_init (Some i) = init_touches ar (given variable_type (meaning ar x.name)) i
 
 -- of the variables of a block
 abbrev pub decls_touches : Around → List tree_stmt.Decl → List Touch
@@ -214,10 +223,10 @@ abbrev pub lval_touches : How → Around → tree.Lval → List Touch
 lval_touches h ar l = target_touches h ar (as_expr l) ++ expr_touches ar (as_expr l)
 
 -- the last part of a `for`
-abbrev pub last_touches : Around → tree_stmt.ForStep → List Touch
-last_touches ar (tree_stmt.ForStep.Assign l e) = lval_touches By_statement ar l ++ expr_touches ar e
-last_touches ar (tree_stmt.ThenOp l w e) = lval_touches By_statement ar l ++ expr_touches ar e
-last_touches ar (tree_stmt.ForStep.Step at l w) = lval_touches By_statement ar l
+abbrev pub step_touches : Around → tree_stmt.ForStep → List Touch
+step_touches ar (tree_stmt.ForStep.Assign l e) = lval_touches By_statement ar l ++ expr_touches ar e
+step_touches ar (tree_stmt.ForStep.Operator a) = lval_touches By_statement ar a.target ++ expr_touches ar a.value
+step_touches ar (tree_stmt.ForStep.Step at l w) = lval_touches By_statement ar l
 
 -- of a delay
 abbrev pub delay_touches : Around → Option tree_stmt.Delay → List Touch
@@ -264,38 +273,47 @@ abbrev pub in_scope : Around → (Around → List Touch) → List Touch
 in_scope i go = nearest_declares i.scopes ++ go i
 
 abbrev mutual
+  -- what a statement writes, calls and declares
   pub stmt_touches : Around → tree_stmt.Stmt → List Touch
   stmt_touches ar (tree_stmt.Statement at label b) = body_touches ar label b
 
+  -- the same of statements
   pub stmts_touches : Around → tree_stmt.Stmts → List Touch
   stmts_touches ar tree_stmt.NoStmt = []
   stmts_touches ar (tree_stmt.AndStmt x xs) = stmt_touches ar x ++ stmts_touches (after_scopes (scopes_made x) ar) xs
 
-  pub arms_touches : Around → tree_stmt.CaseItems → List Touch
-  arms_touches ar tree_stmt.NoCaseItem = []
-  arms_touches ar (tree_stmt.Labels es x rest) = exprs_touches ar es ++ stmt_touches ar x ++ arms_touches ar rest
-  arms_touches ar (tree_stmt.Default x rest) = stmt_touches ar x ++ arms_touches ar rest
+  -- the same of the items of a `case`
+  pub items_touches : Around → tree_stmt.CaseItems → List Touch
+  items_touches ar tree_stmt.NoCaseItem = []
+  items_touches ar (tree_stmt.Labels es x rest) = exprs_touches ar es ++ stmt_touches ar x ++ items_touches ar rest
+  items_touches ar (tree_stmt.Default x rest) = stmt_touches ar x ++ items_touches ar rest
 
+  -- the same of a statement without its label
   pub body_touches : Around → Option Name → tree_stmt.Body → List Touch
   body_touches ar label (tree_stmt.Block n ds xs end) =
-      in_scope (inside (inner_scope ar (first_name n label) (block_entries ar ds xs)) ar) (λ i. decls_touches i ds ++ stmts_touches i xs)
+      in_scope (inside (inner_scope ar (first_name n label) (block_entries ar ds xs)) ar)
+      (λ i. decls_touches i ds ++ stmts_touches i xs)
   body_touches ar label (tree_stmt.Fork n ds xs j end) =
-      in_scope (inside (inner_scope ar (first_name n label) (block_entries ar ds xs)) ar) (λ i. decls_touches i ds ++ stmts_touches i xs)
-  body_touches ar label (tree_stmt.Assign l d i) =
-      lval_touches By_statement ar l ++ delay_touches ar d ++ init_touches ar (given type_of_target (target By_statement ar l)) i
-  body_touches ar label (tree_stmt.Later l d e) = lval_touches Nonblocking ar l ++ delay_touches ar d ++ expr_touches ar e
-  body_touches ar label (tree_stmt.Op l w e) = lval_touches By_statement ar l ++ expr_touches ar e
+      in_scope (inside (inner_scope ar (first_name n label) (block_entries ar ds xs)) ar)
+      (λ i. decls_touches i ds ++ stmts_touches i xs)
+  body_touches ar label (tree_stmt.Blocking a) =
+      lval_touches By_statement ar a.target ++ delay_touches ar a.delay
+      ++ init_touches ar (given type_of_target (target By_statement ar a.target)) a.value
+  body_touches ar label (tree_stmt.Nonblocking a) =
+      lval_touches Nonblocking ar a.target ++ delay_touches ar a.delay ++ expr_touches ar a.value
+  body_touches ar label (tree_stmt.Body.Operator a) = lval_touches By_statement ar a.target ++ expr_touches ar a.value
   body_touches ar label (tree_stmt.Body.Step l w) = lval_touches By_statement ar l
   body_touches ar label (tree_stmt.Call e) = expr_touches ar e
   body_touches ar label (tree_stmt.Ignore p e) = expr_touches ar e
   body_touches ar label (tree_stmt.If e x) = expr_touches ar e ++ stmt_touches ar x
-  body_touches ar label (tree_stmt.IfElse e x y) = expr_touches ar e ++ stmt_touches ar x ++ stmt_touches (after_scopes (scopes_made x) ar) y
-  body_touches ar label (tree_stmt.Case w e as') = expr_touches ar e ++ arms_touches ar as'
+  body_touches ar label (tree_stmt.IfElse e x y) =
+      expr_touches ar e ++ stmt_touches ar x ++ stmt_touches (after_scopes (scopes_made x) ar) y
+  body_touches ar label (tree_stmt.Case w e is) = expr_touches ar e ++ items_touches ar is
   body_touches ar label (tree_stmt.For (tree_stmt.Declare w n v) e l x) =
       in_scope (inside (inner_scope (automatic_loop ar) None (for_entries w n x)) ar)
-      (λ i. expr_touches i v ++ expr_touches i e ++ last_touches i l ++ stmt_touches i x)
+      (λ i. expr_touches i v ++ expr_touches i e ++ step_touches i l ++ stmt_touches i x)
   body_touches ar label (tree_stmt.For (tree_stmt.ForInit.Assign t v) e l x) =
-      lval_touches By_statement ar t ++ expr_touches ar v ++ expr_touches ar e ++ last_touches ar l ++ stmt_touches ar x
+      lval_touches By_statement ar t ++ expr_touches ar v ++ expr_touches ar e ++ step_touches ar l ++ stmt_touches ar x
   body_touches ar label (tree_stmt.While e x) = expr_touches ar e ++ stmt_touches ar x
   body_touches ar label (tree_stmt.Do x e) = stmt_touches ar x ++ expr_touches ar e
   body_touches ar label (tree_stmt.Repeat e x) = expr_touches ar e ++ stmt_touches ar x
@@ -333,7 +351,7 @@ abbrev pub Table : Type 0
 Table = List (Path × List Touch)
 
 -- how a procedure writes
-abbrev pub writer_of : Procedure → Writer
+abbrev pub writer_of : ProcedureWord → Writer
 writer_of procedure.AlwaysComb = Alone
 writer_of procedure.AlwaysFf = Alone
 writer_of k = Shared
@@ -416,7 +434,8 @@ same_continuous v w = is_continuous v.writer && is_continuous w.writer && (v.pro
 abbrev pub one_continuous : List Write → Write → Checked (Unit {0})
 one_continuous ws w =
     rule 20 w.at (some (λ v.
-    (is_continuous v.writer || is_continuous w.writer) && place_before v.at w.at && same_path v.object w.object && not (same_continuous v w)) ws)
+    (is_continuous v.writer || is_continuous w.writer) && place_before v.at w.at && same_path v.object w.object
+    && not (same_continuous v w)) ws)
 
 -- by place, then by number of process
 abbrev pub comes_first : Write → Write → Bool
@@ -426,7 +445,8 @@ comes_first v w = place_before v.at w.at || (same_place v.at w.at && nat_lt v.pr
 abbrev pub written_alone : List Write → Write → Checked (Unit {0})
 written_alone ws w =
     rule 22 w.at (some (λ v.
-    (is_alone v.writer || is_alone w.writer) && not (v.process == w.process) && comes_first v w && same_path v.object w.object) ws)
+    (is_alone v.writer || is_alone w.writer) && not (v.process == w.process) && comes_first v w
+    && same_path v.object w.object) ws)
 
 -- a variable with an initializer, at its place
 abbrev pub Initialized : Type 0
