@@ -15,11 +15,13 @@ use Rattle.sv_flat.specs.declared.process.Process.{Process}
 use Rattle.sv_flat.specs.declared.process.ProcessKind.{ProcessKind}
 use Rattle.sv_flat.specs.declared.process.ProcessKind.TheVariants as process_kind
 use Rattle.sv_flat.specs.declared.process.Watch.{Watch}
+use Rattle.sv_flat.specs.declared.stmt.Stmt.{Stmt}
+use Rattle.sv_flat.specs.declared.target.Lvalue.{Lvalue}
 use Rattle.sv_flat.specs.Expr as flat_expr
 use Rattle.sv_flat.specs.Names.{reached}
 use Rattle.sv_flat.specs.Process.{routine_of}
 use Rattle.sv_tree.specs.declared.token.Timescale.{Timescale}
-use Rattle.sv_tree.specs.Units.{Description}
+use Rattle.sv_tree.specs.Descriptions.{Description}
 use Rattle.sv_names.specs.declared.around.ClassInfo.{ClassInfo}
 use Rattle.sv_names.specs.declared.checked.Checked.{Checked}
 use Rattle.sv_names.specs.declared.checked.Fault.{Fault}
@@ -59,7 +61,7 @@ scales_agree [] = fine
 scales_agree (t ∷ ts) =
     all (λ u. rule 54 u.at (nat_lt u.unit u.precision)) (t ∷ ts) where_also all (differs t) ts
 
--- ---- the whole
+-- ---- processes, subroutines, clocking blocks and instances
 
 -- the processes, each with the drivers of those before
 abbrev pub processes_in : List Path → List Made → Numbered (List Process)
@@ -142,10 +144,10 @@ is_outer d (Some o) = told (slice_get d.objects o.0)
 -- what one `always_comb` watches
 abbrev pub comb_watches : Parts → Process → List Watch
 comb_watches d p =
-    let body : RoutineId → List Rattle.sv_flat.specs.declared.stmt.Stmt.Stmt = λ r. (routine_of d r).body in
+    let body : RoutineId → List Stmt = λ r. (routine_of d r).body in
     let rs : List RoutineId = reached d p.body in
     let es : List flat_expr.Expr = flat_map (λ r. operands_of body (length d.routines + 1) 0 (body r)) rs in
-    let ts : List Rattle.sv_flat.specs.declared.target.Lvalue.Lvalue = flat_map (λ r. targets_of body (length d.routines + 1) (body r)) rs in
+    let ts : List Lvalue = flat_map (λ r. targets_of body (length d.routines + 1) (body r)) rs in
     map on_change (filter (λ e. is_outer d (object_of e) && not (is_written ts e)) es)
 
 -- a process with what it watches
