@@ -17,7 +17,7 @@ use Rattle.sv_names.specs.declared.around.ClassInfo.{ClassInfo}
 use Rattle.sv_names.specs.declared.checked.Checked.{Checked}
 use Rattle.sv_names.specs.declared.checked.Checked.TheVariants.{Good, Broken}
 use Rattle.sv_names.specs.declared.ty.Ty.{Ty}
-use Rattle.sv_names.specs.declared.ty.Ty.TheVariants.{Text, Class, Nothing, MailboxOf, Enum}
+use Rattle.sv_names.specs.declared.ty.Ty.TheVariants.{Text, Class, Nothing, MailboxOf, Assoc, Enum}
 use Rattle.sv_names.specs.declared.hoisted.Hoisted.{Hoisted}
 use Rattle.sv_names.specs.declared.typed.Typed.{Typed}
 use Rattle.sv_names.specs.declared.named.Formal.{Formal}
@@ -149,12 +149,17 @@ slot_of ar p x = found (class_in ar.classes p)
     found None = 0
     found (Some k) = slot_from 0 x k.slots
 
+-- the object of a method as its first argument
+abbrev pub object_argument : flat.Expr → Argument
+object_argument o = record { value = Some o; targets = None }
+
 -- a method by the class of the object, or the one that is named
 abbrev pub method_form : Around → Callee → (is_direct : Bool) → Ty → flat.Expr → List Argument → CallForm
 method_form ar c direct (Class p) o as' =
-    if c.is_virtual && not direct then call.Method (ar.numbers.class p) (slot_of ar p c.name.text) (record { value = Some o; targets = None } ∷ as')
-    else call.Routine (ar.numbers.subroutine c.path) (Some o) (record { value = Some o; targets = None } ∷ as')
-method_form ar c direct t o as' = call.Routine (ar.numbers.subroutine c.path) (Some o) (record { value = Some o; targets = None } ∷ as')
+    if c.is_virtual && not direct
+    then call.Method (ar.numbers.class p) (slot_of ar p c.name.text) (object_argument o ∷ as')
+    else call.Routine (ar.numbers.subroutine c.path) (Some o) (object_argument o ∷ as')
+method_form ar c direct t o as' = call.Routine (ar.numbers.subroutine c.path) (Some o) (object_argument o ∷ as')
 
 -- what is called, with its object as the first argument
 abbrev pub call_form : Around → Callee → Option Typed → Bool → List (Hoisted Argument) → Hoisted CallForm
@@ -269,7 +274,8 @@ keys_given ar (a ∷ as') = a.value 0 ▷ exactly ar int_type a.at
 abbrev pub walked : Around → Methods.Action → Typed → Place → List Spot → Checked (Hoisted CallForm)
 walked ar (Methods.Walk w) c at (s ∷ []) =
     if same_type s.1.ty (key_of c.ty)
-    then Good (paired {B = flat.Expr × List Lvalue} (λ q p. call.Walk w (container_of q) p.0 p.1) c.code (beside (λ e ls. (e, ls)) s.1.code (lvalues ar (s ∷ []))))
+    then Good (paired {B = flat.Expr × List Lvalue} (λ q p. call.Walk w (container_of q) p.0 p.1) c.code
+    (beside (λ e ls. (e, ls)) s.1.code (lvalues ar (s ∷ []))))
     else broken_at 16 at
 walked ar action c at ss = broken_at 16 at
 
@@ -278,7 +284,7 @@ abbrev pub delete_index : Around → Typed → Place → Typed → Checked (Hois
 delete_index ar c at i = by_key (is_queue_index c.ty)
   where
     is_queue_index : Ty → Bool
-    is_queue_index (Rattle.sv_names.specs.declared.ty.Ty.TheVariants.Assoc k t) = false
+    is_queue_index (Assoc k t) = false
     is_queue_index t = true
 
     by_key : Bool → Checked (Hoisted flat.Expr)
@@ -288,7 +294,8 @@ delete_index ar c at i = by_key (is_queue_index c.ty)
 -- what each method does with its arguments
 abbrev pub acted : Around → Place → Action → Gives → Typed → List Arg → Checked Called
 acted ar pe (Methods.Push e) g c as' =
-    one_arg as' (λ a. with_value a (λ x. given (paired (λ q v. call.Push e (container_of q) v) c.code) (exactly ar (item_of c.ty) a.at x)) Nothing)
+    one_arg as' (λ a. with_value a (λ x.
+    given (paired (λ q v. call.Push e (container_of q) v) c.code) (exactly ar (item_of c.ty) a.at x)) Nothing)
 acted ar pe (Methods.Pop e) g c as' =
     Good (A_call (mapped (λ q. call.Pop e (container_of q) (plain_of ar.numbers (item_of c.ty))) c.code) (type_given g))
 acted ar pe Methods.Insert g c (i ∷ a ∷ as') =
@@ -307,7 +314,8 @@ acted ar pe (Methods.Walk w) g c as' =
     one_arg as' (λ a. given (λ f. A_call f int_type) (target_argument 0 a ▷ walked ar (Methods.Walk w) c a.at))
 acted ar pe (Methods.Put waits) g m as' =
     one_arg as' (λ a. with_value a (λ x.
-    given (λ p. paired (λ b v. call.Put b v (message_type ar.numbers p.0) waits) m.code p.1) (message_of ar m.ty a.at x)) (type_given g))
+    given (λ p. paired (λ b v. call.Put b v (message_type ar.numbers p.0) waits) m.code p.1) (message_of ar m.ty a.at x))
+    (type_given g))
 acted ar pe (Methods.Get peeks waits) g m as' =
     one_arg as' (λ a. given (λ f. A_call f (type_given g))
     (target_argument 0 a ▷ (λ ss. given (get_form ar peeks waits m ss) (receiver m.ty a.at ss))))

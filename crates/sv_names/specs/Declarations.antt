@@ -19,7 +19,7 @@ use Rattle.sv_tree.specs.Stmt as tree_stmt
 use Rattle.sv_tree.specs.Stmt.{Dimension}
 use Rattle.sv_names.specs.declared.named.ResultVariable.TheVariants as result_variable
 use Rattle.sv_names.specs.declared.named.ResultVariable.{ResultVariable}
-use Rattle.sv_names.specs.declared.ty.Element.{Element}
+use Rattle.sv_names.specs.declared.element.Element.{Element}
 use Rattle.sv_names.specs.declared.checked.Checked.{Checked}
 use Rattle.sv_names.specs.declared.checked.Checked.TheVariants.{Good}
 use Rattle.sv_names.specs.declared.ty.Ty.{Ty}

@@ -226,7 +226,8 @@ all_met us files g ws = map (met_outside files g) (outside us) ++ map (met (arou
 -- E20, E22, E23, E44
 abbrev pub met_stand : Group → List Walked → List Met → Checked (Unit {0})
 met_stand g ws ms =
-    writers_stand (class_infos g ws) (flat_map (λ m. m.table) ms) (Sources.numbered 0 (flat_map (λ m. m.processes) ms)) (flat_map initialized ws)
+    writers_stand (class_infos g ws) (flat_map (λ m. m.table) ms) (Sources.numbered 0 (flat_map (λ m. m.processes) ms))
+    (flat_map initialized ws)
     where_also limits_stand ms
 
 -- the flat design of what is walked

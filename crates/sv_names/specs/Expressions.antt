@@ -75,9 +75,9 @@ abbrev pub of_one : Place → List Arg → (Arg → Checked Typed) → Checked T
 of_one at (a ∷ []) go = go a
 of_one at as' go = broken_at 31 at where_also values_stand as'
 
--- a number of bits
-abbrev pub bits_counted : Place → Bool → ℕ → Typed
-bits_counted at c w = value_typed int_type at c (pure (flat.Literal (vector true (symbols_of 32 w 0)) None))
+-- a number of bits, of type int
+abbrev pub bits_literal : ℕ → flat.Expr
+bits_literal w = flat.Literal (vector true (symbols_of 32 w 0)) None
 
 -- whether calls stand in an expression
 abbrev pub has_calls : Typed → Bool
@@ -90,12 +90,13 @@ has_calls t = some t.code.hidden
 -- `$bits` of an expression is constant where no call stands in it
 abbrev pub bits_of_value : Place → Arg → Checked Typed
 bits_of_value at a =
-    a.value 0 ▷ number_operand a.at ▷ (λ t.
-    Good (value_typed int_type at (not (has_calls t)) (mapped (λ e. flat.Literal (vector true (symbols_of 32 (width_of_type t.ty) 0)) None) t.code)))
+    a.value 0 ▷ number_operand a.at
+    ▷ (λ t. Good (value_typed int_type at (not (has_calls t)) (mapped (λ e. bits_literal (width_of_type t.ty)) t.code)))
 
 -- E15
 abbrev pub bits_of_type : Place → Place → Ty → Checked Typed
-bits_of_type at pa t = if is_integral t then Good (bits_counted at true (width_of_type t)) else broken_at 15 pa
+bits_of_type at pa t =
+    if is_integral t then Good (value_typed int_type at true (pure (bits_literal (width_of_type t)))) else broken_at 15 pa
 
 -- the type that an expression names
 abbrev pub type_in : Around → tree.Expr → Option (Checked Ty)
@@ -254,7 +255,8 @@ abbrev mutual
   expr ar (tree.Unary at op e) = given (unary_typed at op) (expr ar e ▷ number_operand (place_of e))
   expr ar (tree.Binary op at a b) =
       in_turn (expr ar a) (λ x n.
-      binary_of ar (kind_of op) at (place_of a) (place_of b) x (expr (behind n (if decides_early op then without_calls ar else ar)) b))
+      binary_of ar (kind_of op) at (place_of a) (place_of b) x
+      (expr (behind n (if decides_early op then without_calls ar else ar)) b))
   expr ar (tree.Choose c a b) =
       in_turn (expr ar c) (λ x n. in_turn (expr (behind n (without_calls ar)) a) (λ y m.
       choose_of ar (place_of c) (place_of a) (place_of b) x y (expr (behind m (behind n (without_calls ar))) b)))
@@ -263,7 +265,8 @@ abbrev mutual
   pub placed : Around → tree.Exprs → Checked (List Placed)
   placed ar tree.NoExpr = Good []
   placed ar (tree.AndExpr e es) =
-      in_turn (expr ar e) (λ x n. given (λ p. (place_of e, p.0) ∷ p.1) (both (x ▷ joinable (place_of e)) (placed (behind n ar) es)))
+      in_turn (expr ar e) (λ x n.
+      given (λ p. (place_of e, p.0) ∷ p.1) (both (x ▷ joinable (place_of e)) (placed (behind n ar) es)))
 
   -- the same, where brackets are written
   pub placed_actuals : Around → tree.Actuals → Checked (List Placed)
@@ -320,7 +323,8 @@ abbrev mutual
   before_select ar pe th (tree.Part at w l r rest) =
       if_broken th
       (given A_value (th ▷ thing_value ar pe ▷ (λ t.
-      part_select_of w at pe (place_of l) (place_of r) t (expr (with_dollar (dollar_in th) ar) l) (expr (with_dollar (dollar_in th) ar) r))))
+      part_select_of w at pe (place_of l) (place_of r) t
+      (expr (with_dollar (dollar_in th) ar) l) (expr (with_dollar (dollar_in th) ar) r))))
       (λ next. before_select ar pe next rest)
 
   -- an expression as a target; None where it can be none

@@ -60,41 +60,50 @@ abbrev pub in_table : List ℕ → Table → Option Method
 in_table x [] = None
 in_table x (e ∷ es) = if same_bytes x e.0 then Some e.1 else in_table x es
 
--- those of queues
+-- those of queues (7.10.2)
 abbrev pub queue_methods : Ty → Table
 queue_methods t =
-    (codes "push_back", calling (Push Back) 1 1 Nothing_at_once) ∷ (codes "push_front", calling (Push Front) 1 1 Nothing_at_once)
-    ∷ (codes "pop_back", calling (Pop Back) 0 0 (A_value_of t)) ∷ (codes "pop_front", calling (Pop Front) 0 0 (A_value_of t))
-    ∷ (codes "insert", calling Insert 2 2 Nothing_at_once) ∷ (codes "delete", calling Delete 0 1 Nothing_at_once)
+    (codes "push_back", calling (Push Back) 1 1 Nothing_at_once)
+    ∷ (codes "push_front", calling (Push Front) 1 1 Nothing_at_once)
+    ∷ (codes "pop_back", calling (Pop Back) 0 0 (A_value_of t))
+    ∷ (codes "pop_front", calling (Pop Front) 0 0 (A_value_of t))
+    ∷ (codes "insert", calling Insert 2 2 Nothing_at_once)
+    ∷ (codes "delete", calling Delete 0 1 Nothing_at_once)
     ∷ (codes "size", operating Size 0 int_type) ∷ []
 
--- those of dynamic arrays
+-- those of dynamic arrays (7.5)
 abbrev pub dynamic_methods : Table
 dynamic_methods = (codes "size", operating Size 0 int_type) ∷ (codes "delete", calling Delete 0 0 Nothing_at_once) ∷ []
 
--- those of associative arrays
+-- those of associative arrays (7.9)
 abbrev pub assoc_methods : Table
 assoc_methods =
-    (codes "num", operating Size 0 int_type) ∷ (codes "exists", operating Exists 1 int_type)
-    ∷ (codes "delete", calling Delete 0 1 Nothing_at_once) ∷ (codes "first", calling (Walk walk.First) 1 1 (A_value_of int_type))
-    ∷ (codes "last", calling (Walk walk.Last) 1 1 (A_value_of int_type)) ∷ (codes "next", calling (Walk walk.Next) 1 1 (A_value_of int_type))
+    (codes "num", operating Size 0 int_type)
+    ∷ (codes "exists", operating Exists 1 int_type)
+    ∷ (codes "delete", calling Delete 0 1 Nothing_at_once)
+    ∷ (codes "first", calling (Walk walk.First) 1 1 (A_value_of int_type))
+    ∷ (codes "last", calling (Walk walk.Last) 1 1 (A_value_of int_type))
+    ∷ (codes "next", calling (Walk walk.Next) 1 1 (A_value_of int_type))
     ∷ (codes "prev", calling (Walk walk.Prev) 1 1 (A_value_of int_type)) ∷ []
 
--- those of mailboxes
+-- those of mailboxes (15.4)
 abbrev pub mailbox_methods : Table
 mailbox_methods =
-    (codes "put", calling (Put true) 1 1 Nothing_later) ∷ (codes "get", calling (Get false true) 1 1 Nothing_later)
-    ∷ (codes "peek", calling (Get true true) 1 1 Nothing_later) ∷ (codes "try_put", calling (Put false) 1 1 (A_value_of int_type))
+    (codes "put", calling (Put true) 1 1 Nothing_later)
+    ∷ (codes "get", calling (Get false true) 1 1 Nothing_later)
+    ∷ (codes "peek", calling (Get true true) 1 1 Nothing_later)
+    ∷ (codes "try_put", calling (Put false) 1 1 (A_value_of int_type))
     ∷ (codes "try_get", calling (Get false false) 1 1 (A_value_of int_type))
-    ∷ (codes "try_peek", calling (Get true false) 1 1 (A_value_of int_type)) ∷ (codes "num", operating Messages 0 int_type) ∷ []
+    ∷ (codes "try_peek", calling (Get true false) 1 1 (A_value_of int_type))
+    ∷ (codes "num", operating Messages 0 int_type) ∷ []
 
--- those of semaphores
+-- those of semaphores (15.3)
 abbrev pub semaphore_methods : Table
 semaphore_methods =
     (codes "get", calling (Get_keys true) 0 1 Nothing_later) ∷ (codes "put", calling Put_keys 0 1 Nothing_at_once)
     ∷ (codes "try_get", calling (Get_keys false) 0 1 (A_value_of int_type)) ∷ []
 
--- the methods of a type
+-- the methods of a type; of enums, strings and events by 6.19.5, 6.16.1 and 15.5.3
 abbrev pub methods_of : Ty → Table
 methods_of (Queue t) = queue_methods (as_type t)
 methods_of (Dynamic t) = dynamic_methods

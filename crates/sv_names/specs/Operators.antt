@@ -55,7 +55,8 @@ literal_type text n =
 -- a number as it is written
 abbrev pub literal_typed : Place → List ℕ → Typed
 literal_typed at text =
-    value_typed (literal_type text (number_of text)) at true (pure (flat.Literal (number_of text).bits (fill_of_number (number_of text))))
+    value_typed (literal_type text (number_of text)) at true
+    (pure (flat.Literal (number_of text).bits (fill_of_number (number_of text))))
 
 -- E52
 abbrev pub ticks_in : Scale → Place → List ℕ → Checked ℕ
@@ -245,7 +246,8 @@ joined a [] = a
 joined a (p ∷ ps) =
     let r : Typed = joined p.1 ps in
     value_typed
-    (if is_text a.ty then Text else plain_vector (width_of_type a.ty + width_of_type r.ty) false (is_four_state a.ty || is_four_state r.ty))
+    (if is_text a.ty then Text
+    else plain_vector (width_of_type a.ty + width_of_type r.ty) false (is_four_state a.ty || is_four_state r.ty))
     a.at (a.is_constant && r.is_constant) (paired flat.Join a.code r.code)
 
 -- one part alone is unsigned too

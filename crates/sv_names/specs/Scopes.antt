@@ -251,5 +251,6 @@ head_of false ar s q is_pure k r = callee_of ar s q is_pure k r
 -- what a declaration stands for
 abbrev pub value_of_any : (is_last : Bool) → Around → Path → Entry → Declared → Checked Named
 value_of_any l ar s e (A_subroutine q is_pure k r) = Good (Subroutine (head_of l ar s q is_pure k r))
-value_of_any l ar s e (A_clocking is) = Good (Clocking_block (s ++ e.name.text ∷ []) (signals_in ar (s ++ e.name.text ∷ []) is))
+value_of_any l ar s e (A_clocking is) =
+    Good (Clocking_block (s ++ e.name.text ∷ []) (signals_in ar (s ++ e.name.text ∷ []) is))
 value_of_any l ar s e d = value_of_entry ar s e d

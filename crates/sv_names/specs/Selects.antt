@@ -69,7 +69,8 @@ selected_at w offset falling pi a i =
 -- so many bits, the lowest at the index less `back`
 abbrev pub selected : ℕ → ℤ → Place → Bounds → Typed → Typed → Typed
 selected w back pi b a i =
-    if is_descending b then selected_at w (pos 0 -ℤ (b.right +ℤ back)) false pi a i else selected_at w (b.right +ℤ back) true pi a i
+    if is_descending b then selected_at w (pos 0 -ℤ (b.right +ℤ back)) false pi a i
+    else selected_at w (b.right +ℤ back) true pi a i
 
 -- a select of one bit
 abbrev pub bit_of : Place → Place → Typed → Checked Typed → Checked Typed
@@ -83,7 +84,8 @@ number_typed at i = value_typed (plain_vector 64 true false) at true (pure (flat
 abbrev pub fixed_part : Place → Place → Place → Bounds → Typed → ℤ → ℤ → Checked Typed
 fixed_part at pe pl b a l r =
     (if is_descending b then rule 14 at (int_lt l r) else rule 14 at (int_lt r l))
-    ▷ (λ _. Good (selected (nat_abs (l -ℤ r) + 1) (pos 0) pl b a (number_typed pl r)) where_also not_too_wide pe (nat_abs (l -ℤ r) + 1))
+    ▷ (λ _. Good (selected (nat_abs (l -ℤ r) + 1) (pos 0) pl b a (number_typed pl r))
+    where_also not_too_wide pe (nat_abs (l -ℤ r) + 1))
 
 -- `[b +: w]` and `[b -: w]`: the lowest bit stands at b or at b - (w - 1), counted from the low end
 abbrev pub lowest_back : PartWord → Bounds → ℕ → ℤ
@@ -152,7 +154,13 @@ item_typed ar pi a steady i =
       at = a.at;
       is_constant = false;
       code = paired (item_expr (plain_of ar.numbers (item_of a.ty))) a.code i;
-      target = record a.target { base = item_base a.code.value i.value; part = None; whole = item_of a.ty; is_item = true; moving = moving_with steady pi a.target.moving };
+      target = record a.target {
+        base = item_base a.code.value i.value;
+        part = None;
+        whole = item_of a.ty;
+        is_item = true;
+        moving = moving_with steady pi a.target.moving;
+      };
     }
 
 -- an element of a fixed array, as a value and as a target
@@ -163,7 +171,12 @@ element_typed ar pi b t a steady i =
       at = a.at;
       is_constant = false;
       code = paired (element_expr b (plain_of ar.numbers t)) a.code i;
-      target = record a.target { base = element_base b a.code.value i.value; part = None; whole = t; moving = moving_with steady pi a.target.moving };
+      target = record a.target {
+        base = element_base b a.code.value i.value;
+        part = None;
+        whole = t;
+        moving = moving_with steady pi a.target.moving;
+      };
     }
 
 -- an item or an element

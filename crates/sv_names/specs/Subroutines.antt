@@ -235,7 +235,8 @@ constructor_path k = k ++ codes "new" ∷ []
 -- a call of the constructor of the base
 abbrev pub super_form : Around → Path → Typed → List (Hoisted Argument) → Hoisted Form
 super_form ar base this as' =
-    mapped (λ xs. form.Call (record { form = call.Routine (ar.numbers.subroutine (constructor_path base)) None xs; result = None }))
+    mapped (λ xs.
+    form.Call (record { form = call.Routine (ar.numbers.subroutine (constructor_path base)) None xs; result = None }))
     (in_row (as_input this.code ∷ as'))
 
 -- `super.new`, written or implied, at the place of its statement

@@ -170,7 +170,8 @@ named_thing ar at (Input p n t) = Good (A_value (object_typed ar at p t An_input
 named_thing ar at (Local u p t) =
     if ar.is_initial then broken_at 7 at else lasts ar at ▷ (λ _. Good (A_value (local_typed ar at u p t In_activation)))
 named_thing ar at (Property k g n t) =
-    may_be_named ar g k at ▷ (λ _. with_object at (at_hand ar at) (λ o. lasts ar at ▷ (λ _. Good (A_value (field_typed ar at k n t o)))))
+    may_be_named ar g k at
+    ▷ (λ _. with_object at (at_hand ar at) (λ o. lasts ar at ▷ (λ _. Good (A_value (field_typed ar at k n t o)))))
 named_thing ar at (Static_property k g p t) =
     may_be_named ar g k at ▷ (λ _. lasts ar at ▷ (λ _. Good (A_value (object_typed ar at p t (A_static_property p)))))
 named_thing ar at (Constant t p) = Good (A_value (constant_named at p t))
@@ -238,7 +239,8 @@ root_thing ar (root.Plain n) = meaning ar n where_also kind_stands ar 7 n.at is_
 root_thing ar (root.This at) = given A_value (this_typed ar at)
 root_thing ar (root.Super at n) = base_of ar at ▷ (λ k. member_named ar k (at_hand ar at) true n)
 root_thing ar (root.Scoped s n) =
-    meaning ar s where_also kind_stands ar 7 s.at is_type_kind s.text ▷ class_named s.at ▷ (λ k. member_named ar k (object_of ar s.at k) true n)
+    meaning ar s where_also kind_stands ar 7 s.at is_type_kind s.text ▷ class_named s.at
+    ▷ (λ k. member_named ar k (object_of ar s.at k) true n)
 
 -- ---- values
 
@@ -282,7 +284,8 @@ signal_named p n i (Broken f ∷ ss) = given_or_broken (signal_named p n (suc i)
     given_or_broken : Checked Thing → Checked Thing
     given_or_broken (Good t) = Good t
     given_or_broken (Broken g) = Broken f
-signal_named p n i (Good s ∷ ss) = if same_bytes s.name.text n.text then Good (The_signal p i s n.at) else signal_named p n (suc i) ss
+signal_named p n i (Good s ∷ ss) =
+    if same_bytes s.name.text n.text then Good (The_signal p i s n.at) else signal_named p n (suc i) ss
 
 -- what follows a dot
 abbrev pub after_dot : Around → Place → Name → Thing → Checked Thing

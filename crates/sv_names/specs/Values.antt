@@ -24,10 +24,18 @@ use Rattle.sv_names.specs.Named.{Around, is_derived}
 
 -- ---- expressions that are no targets
 
--- a value that can't be written
+-- a value that cannot be written
 abbrev pub no_target : Target
 no_target =
-    record { begins = A_value; through = None; base = base.Object (record { 0 = 0 }); part = None; whole = Text; is_item = false; moving = [] }
+    record {
+      begins = A_value;
+      through = None;
+      base = base.Object (record { 0 = 0 });
+      part = None;
+      whole = Text;
+      is_item = false;
+      moving = [];
+    }
 
 -- an expression that is no target
 abbrev pub value_typed : Ty → Place → Bool → Hoisted flat.Expr → Typed
