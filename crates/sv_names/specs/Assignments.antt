@@ -61,26 +61,31 @@ pub record Amount : Type 0 where
   pub amount : Hoisted flat.Expr
   pub in_ticks : Bool
 
--- a time literal alone counts ticks
+-- the expression of an amount: brackets right behind the `#` are no part of it
+abbrev pub amount_expr : tree.Expr → tree.Expr
+amount_expr (tree.Group at e) = e
+amount_expr e = e
+
+-- a time literal alone counts ticks (3.14.1)
 abbrev pub amount_of : Around → tree.Expr → Checked Amount
 amount_of ar (tree.Time at text) =
     given (λ n. record { amount = pure (flat.Literal (vector false (symbols_of 64 n 0)) None); in_ticks = true })
     (ticks_in ar.scale at text)
-amount_of ar e = given (λ t. record { amount = alone t; in_ticks = false }) (number_in ar e)
+amount_of ar e = given (λ t. record { amount = alone t; in_ticks = false }) (number_in ar (amount_expr e))
 
--- E27
+-- E27: a delay after the `=` stands where nothing may wait
 abbrev pub delay_of : Around → Option Delay → Checked (Option Amount)
 delay_of ar None = Good None
 delay_of ar (Some d) = given Some (amount_of ar d.amount) where_also wait_stands ar d.at
 
--- E28: what stands after an `=` is a timing control too
+-- E28: a delay after the `=` is a timing control
 abbrev pub timed : Around → Option Delay → Checked (Unit {0})
 timed ar None = fine
 timed ar (Some d) = timing_stands ar
 
 -- ---- an assignment of a value
 
--- an assignment, at once or after a delay
+-- an assignment, at once or after a delay (9.4.5)
 abbrev pub assign_form : Option Amount → Hoisted (List Lvalue) → Hoisted flat.Expr → Hoisted Form
 assign_form None ls e = paired form.Assign ls e
 assign_form (Some d) ls e = three (λ x a v. form.AssignAfter x v a d.in_ticks) ls d.amount e
@@ -118,7 +123,7 @@ with_constructor ar at k as' (Some (Good (Subroutine c))) =
 with_constructor ar at k as' (Some (Broken f)) = Broken f
 with_constructor ar at k as' c = arguments ar at 0 [] as'
 
--- E35: `new` of a virtual class
+-- E35: `new` of a virtual class (8.21)
 abbrev pub constructed : Around → Place → Path → List Arg → Option ClassInfo → Checked (Hoisted CallForm)
 constructed ar at p as' None = broken_at 7 at
 constructed ar at p as' (Some k) =
@@ -153,7 +158,7 @@ abbrev pub copied : Around → Ty → Ty → Bool
 copied ar (Class p) (Class q) = is_derived ar.classes q p
 copied ar t u = false
 
--- E16: `new h` of a reference
+-- E16: `new h` of a reference (8.12)
 abbrev pub copy_given : Around → Option Amount → Place → List Spot → Typed → Checked (Hoisted Form)
 copy_given ar d at ss t =
     (if copied ar (type_of_target ss) t.ty
@@ -165,7 +170,7 @@ copy_given ar d at ss t =
 abbrev pub old_container : Ty → Place → Typed → Checked (Hoisted Container)
 old_container t at old = if same_type t old.ty then Good (mapped container_of old.code) else broken_at 16 at
 
--- `new[n]` and `new[n](old)`: the target itself is changed
+-- `new[n]` and `new[n](old)` (7.5.1): the target itself is changed
 abbrev pub resized : Around → Option Amount → Place → Hoisted flat.Expr → Option (Hoisted Container) → List Spot → Checked (Hoisted Form)
 resized ar None at n old (s ∷ []) =
     if is_dynamic s.1.ty

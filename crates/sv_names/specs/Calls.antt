@@ -46,7 +46,7 @@ pub data Called : Type 0 where
 
 -- ---- where a call may stand
 
--- E24, E25
+-- E24, E25: a call stands where none may be evaluated
 abbrev pub call_stands : Around → Place → Checked (Unit {0})
 call_stands ar at = told ar.call_rule
   where
@@ -54,11 +54,11 @@ call_stands ar at = told ar.call_rule
     told None = fine
     told (Some n) = broken_at n at
 
--- E27
+-- E27: what may wait stands where nothing may
 abbrev pub wait_stands : Around → Place → Checked (Unit {0})
 wait_stands ar at = rule 27 at ar.may_not_wait
 
--- E37
+-- E37: whether a member with this protection can be named here (8.18)
 abbrev pub is_within : Around → Protection → Path → Bool
 is_within ar Open p = true
 is_within ar Local_to_class p = same_class ar.class
@@ -72,7 +72,7 @@ is_within ar Protected p = derived_class ar.class
     derived_class None = false
     derived_class (Some q) = is_derived ar.classes q p
 
--- a member may be named here
+-- E37: a member is named where it may not be
 abbrev pub may_be_named : Around → Protection → Path → Place → Checked (Unit {0})
 may_be_named ar g p at = rule 37 at (not (is_within ar g p))
 
@@ -82,7 +82,7 @@ may_be_named ar g p at = rule 37 at (not (is_within ar g p))
 abbrev pub as_input : Hoisted flat.Expr → Hoisted Argument
 as_input e = mapped (λ x. record { value = Some x; targets = None }) e
 
--- E16: an input argument takes a value of its type
+-- E16: an input argument takes a value of its type (13.5.1)
 abbrev pub input_argument : Around → Place → Checked Ty → Checked Typed → Checked (Hoisted Argument)
 input_argument ar at t e = both t e ▷ (λ p. given as_input (assigned (record ar { takes_events = true }) p.0 at p.1))
 
@@ -173,7 +173,7 @@ abbrev pub gives_nothing : Checked Ty → Bool
 gives_nothing (Good Nothing) = true
 gives_nothing c = false
 
--- E24, E25, E27, E32
+-- E24, E25, E27, E32: a call of a task, a function or a method (13.3 and 13.4)
 abbrev pub subroutine_called : Around → Place → (is_value : Bool) → Callee → Option Typed → Bool → List Arg → Checked Called
 subroutine_called ar at is_value c o direct as' =
     given (λ p. A_call (call_form ar c o direct p.0) p.1) (both (arguments ar at 0 c.formals as') c.result)
@@ -328,7 +328,7 @@ acted ar pe Methods.Name g e as' =
 acted ar pe Methods.Length g t as' = Good (An_operator (value_typed int_type pe t.is_constant (mapped flat.Length t.code)))
 acted ar pe Methods.Triggered g e as' = Good (An_operator (value_typed (type_given g) pe false (mapped flat.Triggered e.code)))
 
--- E24, E25, E27, E31, E32
+-- E24, E25, E27, E31, E32: a call of a method of the language
 abbrev pub method_called : Around → Place → (is_value : Bool) → Method → Typed → List Arg → Checked Called
 method_called ar at is_value m o as' =
     (rule 31 at (nat_lt (length as') m.least || nat_lt m.most (length as'))
@@ -351,7 +351,7 @@ castable ar answers a pb (s ∷ []) x = into s.1.ty
     into t = if is_array t then broken_at 42 s.1.at else broken_at 16 a.at
 castable ar answers a pb ss x = broken_at 16 a.at
 
--- E24, E25, E31: `$cast` is a call
+-- E24, E25, E31: `$cast` is a call (8.16)
 abbrev pub cast_called : Around → (answers : Bool) → Place → List Arg → Checked Called
 cast_called ar answers at (a ∷ b ∷ []) =
     given (λ f. A_call f int_type)

@@ -115,7 +115,7 @@ flat_class ar k =
       constructor = ar.numbers.subroutine (constructor_path k.path);
     }
 
--- ---- E34: an override differs in kind, arguments or result
+-- ---- E34: an override differs in kind, arguments or result (8.20)
 
 -- whether two arguments have one direction
 abbrev pub same_direction : Direction → Direction → Bool
@@ -209,6 +209,6 @@ class_parts ar k c =
     (both (constructor_of i k c.items c.items) (joined (each (method_of i k) c.items))))
     where_also class_stands i k c
 
--- E6, E33
+-- E6, E33: the names of the bases of classes
 abbrev pub bases_stand : List Entry → List Entry → List Head → Checked (Unit {0})
 bases_stand own outer hs = all (λ h. base_stands own outer h.tree.base where_also not_cyclic hs h) hs

@@ -29,6 +29,7 @@ use Rattle.sv_names.specs.Operators.{ticks_in}
 use Rattle.sv_names.specs.Expressions.{expr}
 use Rattle.sv_names.specs.Scopes.{is_input_side, signal_of_named, signals_in}
 use Rattle.sv_names.specs.Code.{object_at}
+use Rattle.sv_names.specs.Assignments.{amount_expr}
 use Rattle.sv_names.specs.Events.{edge_of}
 use Rattle.sv_names.specs.Blocks.{end_label}
 
@@ -38,17 +39,21 @@ use Rattle.sv_names.specs.Blocks.{end_label}
 abbrev pub unit_ticks : Scale → ℕ
 unit_ticks s = if nat_lt s.unit s.precision then 1 else 10 ^ (s.unit - s.precision)
 
--- E12
+-- E12: a skew in units is not negative
 abbrev pub skew_count : Scale → Place → ℤ → Checked ℕ
 skew_count s at (pos n) = Good (n * unit_ticks s)
 skew_count s at (negsuc n) = broken_at 12 at
 
--- a time literal alone counts ticks
+-- a constant number of units
+abbrev pub units_in : Around → tree.Expr → Checked ℕ
+units_in ar e = expr ar e ▷ constant_number (place_of e) ▷ skew_count ar.scale (place_of e)
+
+-- a time literal alone counts ticks (3.14.1)
 abbrev pub skew_amount : Around → tree.Expr → Checked ℕ
 skew_amount ar (tree.Time at text) = ticks_in ar.scale at text
-skew_amount ar e = expr ar e ▷ constant_number (place_of e) ▷ skew_count ar.scale (place_of e)
+skew_amount ar e = units_in ar (amount_expr e)
 
--- E57
+-- E57: a skew is above 2^20 ticks
 abbrev pub skew_of : Around → tree_unit.Skew → Checked (Option ℕ)
 skew_of ar (tree_unit.OneStep at) = Good None
 skew_of ar (tree_unit.Amount at e) = skew_amount ar e ▷ (λ n. if nat_lt (2 ^ 20) n then broken_at 57 at else Good (Some n))

@@ -50,13 +50,13 @@ is_signed usual sign.Unwritten = usual
 abbrev pub width_between : ℤ → ℤ → ℕ
 width_between l r = nat_abs (l -ℤ r) + 1
 
--- E13
+-- E13: a vector of the bits of a range (6.11)
 abbrev pub ranged : Bool → Bool → Place → ℤ → ℤ → Checked Ty
 ranged s f at l r =
     Good (Bit_vector (integral (width_between l r) s f) (Some (record { left = l; right = r })) true)
     where_also not_too_wide at (width_between l r)
 
--- E7
+-- E7: a name that stands for a type or a class
 abbrev pub type_named : Place → Named → Checked Ty
 type_named at (Type_name t) = Good t
 type_named at (Class_name p) = Good (Class p)
@@ -109,7 +109,7 @@ abbrev pub vector_type : Around → Bool → Bool → Option Range → Checked T
 vector_type ar s f None = Good (plain_vector 1 s f)
 vector_type ar s f (Some r) = both (bound ar r.left) (bound ar r.right) ▷ (λ p. ranged s f r.at p.0 p.1)
 
--- the type in a scope
+-- the type that is written, in a scope (6.18)
 abbrev pub type_of : Around → Path → WrittenType → Checked Ty
 type_of ar p (tree_type.WrittenType.Vector at w s r) = vector_type ar (is_signed false s) (vector_word_four_state w) r
 type_of ar p (tree_type.Atom at w s) =
@@ -207,7 +207,7 @@ abbrev pub written_part : Around → Path → ImpliedType → Checked (Unit {0})
 written_part ar p tree_type.Unwritten = fine
 written_part ar p i = only (implied ar p i)
 
--- E11
+-- E11: the value of a parameter, of its type (6.20.2)
 abbrev pub parameter_value : Around → Path → ImpliedType → Source → Checked Typed
 parameter_value ar p i s =
     ((source_value ar s ▷ constant (place_of_source s)) where_also written_part ar p i) ▷ (λ t.

@@ -223,7 +223,7 @@ numbered s us g ws first =
 abbrev pub all_met : List Description → Around → Group → List Walked → List Met
 all_met us files g ws = map (met_outside files g) (outside us) ++ map (met (around_inst us files)) ws
 
--- E20, E22, E23, E44
+-- E20, E22, E23, E44: the rules on writers and limits, over what is met
 abbrev pub met_stand : Group → List Walked → List Met → Checked (Unit {0})
 met_stand g ws ms =
     writers_stand (class_infos g ws) (flat_map (λ m. m.table) ms) (Sources.numbered 0 (flat_map (λ m. m.processes) ms))

@@ -93,7 +93,7 @@ bits_of_value at a =
     a.value 0 ▷ number_operand a.at
     ▷ (λ t. Good (value_typed int_type at (not (has_calls t)) (mapped (λ e. bits_literal (width_of_type t.ty)) t.code)))
 
--- E15
+-- E15: `$bits` of a type, which is integral
 abbrev pub bits_of_type : Place → Place → Ty → Checked Typed
 bits_of_type at pa t =
     if is_integral t then Good (value_typed int_type at true (pure (bits_literal (width_of_type t)))) else broken_at 15 pa
@@ -109,7 +109,7 @@ type_in ar (tree.Post (root.Plain n) tree.NoSuffix) = of_name (found ar n.text)
     of_name m = None
 type_in ar e = None
 
--- `$bits` of a type or of an expression
+-- `$bits` of a type or of an expression (20.6.2)
 abbrev pub bits_of : Place → Option (Checked Ty) → List Arg → Checked Typed
 bits_of at t as' = of_one at as' (λ a. of_type a t)
   where
@@ -117,13 +117,13 @@ bits_of at t as' = of_one at as' (λ a. of_type a t)
     of_type a None = bits_of_value at a
     of_type a (Some c) = c ▷ bits_of_type at a.at
 
--- `$signed` and `$unsigned`
+-- `$signed` and `$unsigned` (11.7)
 abbrev pub signed_as : Place → Bool → Typed → Typed
 signed_as at s t =
     let i = integral (width_of_type t.ty) s (is_four_state t.ty) in
     value_typed (Bit_vector i None false) at t.is_constant (mapped (flat.Convert i) t.code)
 
--- `$clog2`
+-- `$clog2` (20.8.1)
 abbrev pub logarithm : Place → Typed → Typed
 logarithm at t = value_typed (selectable 32 true true) at t.is_constant (mapped flat.Log2 t.code)
 
@@ -132,7 +132,7 @@ abbrev pub no_argument : Place → List Arg → Typed → Checked Typed
 no_argument at [] t = Good t
 no_argument at (a ∷ as') t = broken_at 31 at where_also values_stand (a ∷ as')
 
--- `$time`
+-- `$time` (20.3.1)
 abbrev pub time_now : Place → Typed
 time_now at = value_typed (selectable 64 false true) at false (pure (flat.Time at))
 

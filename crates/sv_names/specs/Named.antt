@@ -167,7 +167,7 @@ abbrev pub told : Name → Checked Named → Checked Named
 told n (Good x) = Good x
 told n (Broken f) = told_at n f
 
--- E6
+-- E6: what a name stands for (23.9)
 abbrev pub meaning : Around → Name → Checked Named
 meaning ar n = of_found (found ar n.text)
   where

@@ -58,7 +58,7 @@ literal_typed at text =
     value_typed (literal_type text (number_of text)) at true
     (pure (flat.Literal (number_of text).bits (fill_of_number (number_of text))))
 
--- E52
+-- E52: a time literal is a whole number of ticks, fewer than 2^63 (3.14)
 abbrev pub ticks_in : Scale → Place → List ℕ → Checked ℕ
 ticks_in s at text =
     let n : ℕ = femtoseconds text / 10 ^ s.precision in
@@ -185,7 +185,7 @@ power_stands at a b = rule 53 at (not (a.is_constant && b.is_constant) || is_neg
 abbrev pub power_typed : Place → Place → Typed → Typed → Checked Typed
 power_typed at pa a b = power_stands at a b ▷ (λ _. Good (binary_typed bin.Power pa a b))
 
--- an operator with its operands
+-- an operator with its operands (11.3 and 11.4)
 abbrev pub binary_of : Around → Operands → Place → Place → Place → Checked Typed → Checked Typed → Checked Typed
 binary_of ar (Numbers op) at pa pb a b =
     given (λ p. binary_typed op pa p.0 p.1) (both (a ▷ number_operand pa) (b ▷ number_operand pb))
@@ -219,7 +219,7 @@ branch_type ks pa pb c a b =
 abbrev pub branches : Around → Place → Place → Place → Typed → Typed → Typed → Checked Typed
 branches ar at pa pb c a b = given (choose_typed at c a b) (branch_type ar.classes pa pb c.ty a.ty b.ty)
 
--- `?:` with its operands
+-- `?:` with its operands (11.4.11)
 abbrev pub choose_of : Around → Place → Place → Place → Checked Typed → Checked Typed → Checked Typed → Checked Typed
 choose_of ar pc pa pb c a b =
     both (c ▷ number_operand pc) (both (a ▷ one_item) (b ▷ one_item)) ▷ (λ p. branches ar pc pa pb p.0 p.1.0 p.1.1)
@@ -273,14 +273,14 @@ abbrev pub widths_of : List Placed → ℕ
 widths_of [] = 0
 widths_of (p ∷ ps) = width_of_type p.1.ty + widths_of ps
 
--- E13, E15: a concatenation
+-- E13, E15: a concatenation (11.4.12)
 abbrev pub join_of : Place → List Placed → Checked Typed
 join_of at [] = broken_at 15 at
 join_of at (p ∷ ps) =
     all (same_kind (is_text p.1.ty)) (p ∷ ps)
     ▷ (λ _. not_too_wide at (widths_of (p ∷ ps)) ▷ (λ _. Good (join_all p ps)))
 
--- E13: a replication of a concatenation
+-- E13: a replication of a concatenation (11.4.12.1)
 abbrev pub repeat_of : Place → Checked ℕ → Checked Typed → Checked Typed
 repeat_of at n a =
     both n a ▷ (λ p. not_too_wide at (p.0 * width_of_type p.1.ty) ▷ (λ _. Good (repeated p.0 p.1)))
@@ -296,7 +296,7 @@ abbrev pub number_cast : Ty → Integral → Place → Place → Typed → Check
 number_cast t i pe at e =
     one_item e ▷ (λ x. if is_integral x.ty then Good (number_as t i pe x) else broken_at 16 at)
 
--- a cast to a type
+-- a cast to a type (6.24.1)
 abbrev pub cast_to : Around → Ty → Place → Place → Typed → Checked Typed
 cast_to ar (Bit_vector i b w) pe at t = number_cast (Bit_vector i b w) i pe at t
 cast_to ar (Enum s e i b w) pe at t = number_cast (Enum s e i b w) i pe at t

@@ -68,11 +68,11 @@ condition ar e = raised ar (λ i. given alone (number_in i e))
 abbrev pub may_wait_here : Around → Place → Checked (Unit {0})
 may_wait_here ar at = wait_stands ar at where_also timing_stands ar
 
--- `#`
+-- `#d` (9.4.1)
 abbrev pub delay_form : Amount → Hoisted Form
 delay_form d = mapped (λ x. form.Delay x d.in_ticks) d.amount
 
--- E48: no default clocking
+-- E48: `##` without a default clocking (14.11)
 abbrev pub cycles_form : Around → Place → Checked Amount → Checked (Hoisted Form)
 cycles_form ar at d = by ar.default_clocking
   where
@@ -80,7 +80,7 @@ cycles_form ar at d = by ar.default_clocking
     by None = broken_at 48 at where_also only d
     by (Some p) = given (λ a. mapped (form.Cycles (ar.numbers.clocking p)) a.amount) d
 
--- `@*` watches what the statement after it reads
+-- `@*` watches what the statement after it reads (9.4.2.2)
 abbrev pub after_star : Place → Code → Code
 after_star at c = record c { make = λ n. watching (c.make n) n }
   where
@@ -106,7 +106,7 @@ call_of ar at (tree.System n a) = given (single at) (raised ar (λ i. system_tas
 call_of ar at (tree.SuperNew p new a) = broken_at 38 p where_also values_stand (actual_args ar a)
 call_of ar at e = broken_at 7 (place_of e)
 
--- `void'(..)`
+-- `void'(..)`, which drops the value of a call (13.4.1)
 abbrev pub ignored : Around → Place → tree.Expr → Checked Code
 ignored ar at (tree.Post r s) =
     given (single at) (raised ar (λ i. given call_statement (called_in i (place_of_root r) true (root_thing i r) s)))
@@ -148,7 +148,7 @@ result_targets ar at p = of_named (result_from 0 p ar.scopes)
     of_named None = pure []
     of_named (Some n) = of_typed (variable_typed ar at n)
 
--- E29, E30, E16
+-- E29, E30, E16: `return`, with the result of a function or without one (12.8)
 abbrev pub return_of : Around → Place → Place → Option tree.Expr → Returns → Checked (Hoisted Form)
 return_of ar at word None Outside = broken_at 29 word
 return_of ar at word (Some e) Outside = broken_at 29 word where_also only (expr ar e)

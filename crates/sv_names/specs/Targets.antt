@@ -62,7 +62,7 @@ abbrev pub widths : List Spot → ℕ
 widths [] = 0
 widths (s ∷ ss) = width_of_type s.1.ty + widths ss
 
--- E13
+-- E13: a concatenation of targets, no wider than a vector (11.4.12)
 abbrev pub concatenated : Place → List Spot → Checked (List Spot)
 concatenated at ss = all in_concatenation ss ▷ (λ _. Good ss where_also not_too_wide at (widths ss))
 

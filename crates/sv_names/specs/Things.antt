@@ -99,7 +99,7 @@ lasts ar at = rule 51 at ar.is_printed_later
 
 -- ---- `this` and `super`
 
--- E38, E39
+-- E38, E39: the object at hand (8.11)
 abbrev pub this_typed : Around → Place → Checked Typed
 this_typed ar at = in_class ar.class (found ar (codes "this"))
   where

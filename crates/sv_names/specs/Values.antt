@@ -102,7 +102,7 @@ number_index at t = if is_array t.ty then broken_at 42 t.at else (if is_integral
 
 -- ---- constant numbers
 
--- E11
+-- E11: an expression that must be constant (11.2.1)
 abbrev pub constant : Place → Typed → Checked Typed
 constant at t = if t.is_constant then Good t else broken_at 11 at
 
