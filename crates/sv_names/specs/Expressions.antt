@@ -1,5 +1,5 @@
 -- Expressions and targets over what their names stand for (IEEE 1800-2017, 11): the table of all forms.
-use Rattle.std.specs.Prelude.{ℕ, Bool, true, false, not, ◌||◌, List, [], ◌∷◌, ◌++◌, Option, Some, None, if◌then◌else◌, codes, length, ◌+◌}
+use Rattle.std.specs.Prelude.{ℕ, Bool, true, false, not, ◌||◌, List, [], ◌∷◌, ◌++◌, Option, Some, None, if◌then◌else◌, codes, length}
 use Rattle.sv_value.specs.declared.place.Place.{Place}
 use Rattle.sv_value.specs.Vector.{vector, symbols_of}
 use Rattle.sv_flat.specs.Expr as flat

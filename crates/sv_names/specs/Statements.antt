@@ -1,5 +1,5 @@
 -- Statements with their names resolved (IEEE 1800-2017, 9 to 12): the table of all forms.
-use Rattle.std.specs.Prelude.{ℕ, ◌+◌, Bool, true, false, not, ◌&&◌, List, [], ◌∷◌, ◌++◌, Option, Some, None, if◌then◌else◌, flat_map}
+use Rattle.std.specs.Prelude.{ℕ, Bool, true, false, not, ◌&&◌, List, [], ◌∷◌, ◌++◌, Option, Some, None, if◌then◌else◌, flat_map}
 use Rattle.sv_value.specs.declared.place.Place.{Place}
 use Rattle.sv_value.specs.declared.number.RoutineId.{RoutineId}
 use Rattle.sv_flat.specs.declared.class.Routine.{Routine}

@@ -1,5 +1,5 @@
 -- Subroutines of the flat design: tasks, functions, methods and constructors (IEEE 1800-2017, 8.7, 8.15 and 13).
-use Rattle.std.specs.Prelude.{◌+◌, Bool, true, false, not, ◌||◌, List, [], ◌∷◌, ◌++◌, Option, Some, None, if◌then◌else◌, codes}
+use Rattle.std.specs.Prelude.{Bool, true, false, not, ◌||◌, List, [], ◌∷◌, ◌++◌, Option, Some, None, if◌then◌else◌, codes}
 use Rattle.sv_value.specs.declared.place.Place.{Place}
 use Rattle.sv_flat.specs.declared.object.Object.{Object}
 use Rattle.sv_flat.specs.declared.object.ObjectKind.TheVariants as object_kind
@@ -14,7 +14,7 @@ use Rattle.sv_flat.specs.declared.stmt.Form.{Form}
 use Rattle.sv_flat.specs.declared.stmt.Form.TheVariants as form
 use Rattle.sv_flat.specs.declared.call.CallForm.TheVariants as call
 use Rattle.sv_tree.specs.declared.word.Name.{Name}
-use Rattle.sv_tree.specs.declared.word.Direction.{Direction as Written_direction}
+use Rattle.sv_tree.specs.declared.word.Direction.{Direction as WrittenDirection}
 use Rattle.sv_tree.specs.declared.word.Direction.TheVariants as direction
 use Rattle.sv_tree.specs.Expr as tree
 use Rattle.sv_tree.specs.Stmt as tree_stmt
@@ -35,7 +35,7 @@ use Rattle.sv_names.specs.declared.named.Kind.TheVariants.{Object as Of_object}
 use Rattle.sv_names.specs.declared.named.Named.{Named}
 use Rattle.sv_names.specs.declared.named.Named.TheVariants.{Variable, Local, Itself, Property, Subroutine as A_subroutine}
 use Rattle.sv_names.specs.declared.named.Callee.{Callee}
-use Rattle.sv_names.specs.declared.named.Formal.{Formal as Argument_of}
+use Rattle.sv_names.specs.declared.named.Formal.{Formal as FormalArgument}
 use Rattle.sv_names.specs.Checked.{both, ◌▷◌, given, broken_at, ◌where_also◌}
 use Rattle.sv_names.specs.Types.{Path, data_of, is_fixed}
 use Rattle.sv_names.specs.Hoisted.{mapped, in_row}
@@ -96,7 +96,7 @@ in_body ar s auto object waits r =
 -- ---- arguments and result
 
 -- the direction of an argument
-abbrev pub way_of : Written_direction → Direction
+abbrev pub way_of : WrittenDirection → Direction
 way_of direction.Input = way.Input
 way_of direction.Output = way.Output
 way_of direction.Inout = way.Inout
@@ -247,7 +247,7 @@ super_code i at pe base as' (Some k) =
     given (λ p. super_form s base p.0 p.1) (both (this_typed s at) (with_constructor s pe base (as' s) (constructor_in k)))))
 
 -- E40: a base constructor needs arguments and none are given
-abbrev pub needs_arguments : List Argument_of → Bool
+abbrev pub needs_arguments : List FormalArgument → Bool
 needs_arguments [] = false
 needs_arguments (f ∷ fs) = lacks f.default || needs_arguments fs
   where
