@@ -1,0 +1,10 @@
+mod Kit
+mod Worked
+mod Rules
+mod Edges
+mod Forms
+mod Files
+mod Cycles
+mod Kinds
+mod Refused
+mod Varied

@@ -1,0 +1,8 @@
+mod Declarations
+mod Members
+mod Classes
+mod Calls
+mod Clockings
+mod Tasks
+mod Drivers
+mod Values
