@@ -1,0 +1,256 @@
+-- The flat design of a list of units, or the first broken rule.
+use Rattle.std.specs.Prelude.{ℕ, suc, ◌+◌, Bool, false, not, ◌&&◌, ◌||◌, List, [], ◌∷◌, ◌++◌, length, Option, Some, None, if◌then◌else◌, ◌==◌, map, flat_map, filter, nat_lt, slice_get}
+use Rattle.sv_value.specs.declared.number.ObjId.{ObjId}
+use Rattle.sv_value.specs.declared.number.ClassId.{ClassId}
+use Rattle.sv_value.specs.declared.number.RoutineId.{RoutineId}
+use Rattle.sv_flat.specs.declared.design.Scale.{Scale}
+use Rattle.sv_flat.specs.declared.design.Parts.{Parts}
+use Rattle.sv_flat.specs.declared.design.Instance.{Instance}
+use Rattle.sv_flat.specs.declared.class.Routine.{Routine}
+use Rattle.sv_flat.specs.declared.clocking.Clocking.{Clocking}
+use Rattle.sv_flat.specs.declared.object.Object.{Object}
+use Rattle.sv_flat.specs.declared.object.ObjectKind.{ObjectKind}
+use Rattle.sv_flat.specs.declared.object.ObjectKind.TheVariants as object_kind
+use Rattle.sv_flat.specs.declared.process.Process.{Process}
+use Rattle.sv_flat.specs.declared.process.ProcessKind.{ProcessKind}
+use Rattle.sv_flat.specs.declared.process.ProcessKind.TheVariants as process_kind
+use Rattle.sv_flat.specs.declared.process.Watch.{Watch}
+use Rattle.sv_flat.specs.declared.stmt.Stmt.{Stmt}
+use Rattle.sv_flat.specs.declared.target.Lvalue.{Lvalue}
+use Rattle.sv_flat.specs.Expr as flat_expr
+use Rattle.sv_flat.specs.Names.{reached}
+use Rattle.sv_flat.specs.Process.{routine_of}
+use Rattle.sv_tree.specs.declared.token.Timescale.{Timescale}
+use Rattle.sv_tree.specs.Descriptions.{Description}
+use Rattle.sv_names.specs.declared.around.ClassInfo.{ClassInfo}
+use Rattle.sv_names.specs.declared.checked.Checked.{Checked}
+use Rattle.sv_names.specs.declared.checked.Fault.{Fault}
+use Rattle.sv_names.specs.Checked.{◌▷◌, given, rule, fine, ◌where_also◌, each, all, fault_of, value_if}
+use Rattle.sv_names.specs.Types.{Path, Numbers, same_path, position_of}
+use Rattle.sv_names.specs.Named.{Around, is_derived}
+use Rattle.sv_names.specs.Groups.{Group}
+use Rattle.sv_names.specs.Code.{Numbered, followed, just}
+use Rattle.sv_names.specs.Watched.{operands_of, targets_of, is_written, object_of, on_change}
+use Rattle.sv_names.specs.Subroutines.{Made_subroutine}
+use Rattle.sv_names.specs.Clockings.{Made_clocking, times_in}
+use Rattle.sv_names.specs.Writers.{writers_stand}
+use Rattle.sv_names.specs.Sources
+use Rattle.sv_names.specs.Sources.{Met, met, met_outside, limits_stand, initialized}
+use Rattle.sv_names.specs.Instances.{Walked, Enter, roots, some_root, walked, file_group, file_around, outside}
+use Rattle.sv_names.specs.Connections.{Made}
+use Rattle.sv_names.specs.Items.{around_inst, walked_parts, file_parts, Given_parts}
+
+-- ---- the time scale (E54)
+
+-- 1ns/1ns
+abbrev pub default_scale : Scale
+default_scale = record { unit = 6; precision = 6 }
+
+-- the first of the time scales
+abbrev pub scale_of : List Timescale → Scale
+scale_of [] = default_scale
+scale_of (t ∷ ts) = record { unit = t.unit; precision = t.precision }
+
+-- two time scales differ
+abbrev pub differs : Timescale → Timescale → Checked (Unit {0})
+differs t u = rule 54 u.at (not ((t.unit == u.unit) && (t.precision == u.precision)))
+
+-- a precision is no larger than its unit, and all scales are equal
+abbrev pub scales_agree : List Timescale → Checked (Unit {0})
+scales_agree [] = fine
+scales_agree (t ∷ ts) =
+    all (λ u. rule 54 u.at (nat_lt u.unit u.precision)) (t ∷ ts) where_also all (differs t) ts
+
+-- ---- processes, subroutines, clocking blocks and instances
+
+-- the processes, each with the drivers of those before
+abbrev pub processes_in : List Path → List Made → Numbered (List Process)
+processes_in before [] = just []
+processes_in before (m ∷ ms) = followed (λ x xs. x ∷ xs) (m.make before) (processes_in (before ++ m.drives) ms)
+
+-- the subroutines, with what their statements add
+abbrev pub subroutines_in : List Made_subroutine → Numbered (List Routine)
+subroutines_in [] = just []
+subroutines_in (m ∷ ms) = followed (λ x xs. x ∷ xs) m.routine (subroutines_in ms)
+
+-- the clocking blocks, with the drivers before
+abbrev pub clockings_in : List Path → List Made_clocking → List Clocking
+clockings_in before [] = []
+clockings_in before (m ∷ ms) = m.clocking before ∷ clockings_in (before ++ m.drives) ms
+
+-- each net with the number of its drivers
+abbrev pub with_drivers : List Path → Object → Object
+with_drivers ds o = record o { kind = of_kind o.kind }
+  where
+    of_kind : ObjectKind → ObjectKind
+    of_kind (object_kind.Net n) = object_kind.Net (times_in o.path ds)
+    of_kind other = other
+
+-- the instances in the order of the walk
+abbrev pub instance_of : Walked → List Instance
+instance_of (Enter i) = record { path = i.path; is_program = i.unit.is_program } ∷ []
+instance_of _ = []
+
+-- the subroutines come first, then what their statements add, then the routines of processes
+abbrev pub parts_from : Scale → List Instance → Given_parts → Parts
+parts_from s is g =
+    let subs : List Routine × List Routine = (subroutines_in g.subroutines).make (length g.subroutines) in
+    let procs : List Process × List Routine = (processes_in [] g.processes).make (length g.subroutines + length subs.1) in
+    let ds : List Path = flat_map (λ m. m.drives) g.processes ++ flat_map (λ m. m.drives) g.clockings in
+    record {
+      objects = map (with_drivers ds) (g.objects ++ flat_map (λ m. m.samples) g.clockings);
+      processes = procs.0;
+      classes = g.classes;
+      routines = subs.0 ++ subs.1 ++ procs.1;
+      clockings = clockings_in (flat_map (λ m. m.drives) g.processes) g.clockings;
+      instances = is;
+      scale = s;
+    }
+
+-- what all items give
+abbrev pub all_parts : List Given_parts → Given_parts
+all_parts gs =
+    record {
+      objects = flat_map (λ g. g.objects) gs;
+      processes = flat_map (λ g. g.processes) gs;
+      subroutines = flat_map (λ g. g.subroutines) gs;
+      classes = flat_map (λ g. g.classes) gs;
+      class_paths = flat_map (λ g. g.class_paths) gs;
+      clockings = flat_map (λ g. g.clockings) gs;
+    }
+
+-- ---- what an `always_comb` watches: what it and its functions read, but for what it writes
+
+-- whether a path is that of an instance
+abbrev pub is_path_of : Path → List Instance → Bool
+is_path_of p [] = false
+is_path_of p (i ∷ is) = same_path p i.path || is_path_of p is
+
+-- the path of what stands around
+abbrev pub without_last : Path → Path
+without_last [] = []
+without_last (x ∷ []) = []
+without_last (x ∷ y ∷ p) = x ∷ without_last (y ∷ p)
+
+-- whether an object is declared by a unit or a class, and not in a procedure or subroutine
+abbrev pub is_outer : Parts → Option ObjId → Bool
+is_outer d None = false
+is_outer d (Some o) = told (slice_get d.objects o.0)
+  where
+    told : Option Object → Bool
+    told None = false
+    told (Some x) = x.is_property || is_path_of (without_last x.path) d.instances
+
+-- what one `always_comb` watches
+abbrev pub comb_watches : Parts → Process → List Watch
+comb_watches d p =
+    let body : RoutineId → List Stmt = λ r. (routine_of d r).body in
+    let rs : List RoutineId = reached d p.body in
+    let es : List flat_expr.Expr = flat_map (λ r. operands_of body (length d.routines + 1) 0 (body r)) rs in
+    let ts : List Lvalue = flat_map (λ r. targets_of body (length d.routines + 1) (body r)) rs in
+    map on_change (filter (λ e. is_outer d (object_of e) && not (is_written ts e)) es)
+
+-- a process with what it watches
+abbrev pub with_watches : Parts → Process → Process
+with_watches d p = by p.kind
+  where
+    by : ProcessKind → Process
+    by process_kind.AlwaysComb = record p { watched = comb_watches d p }
+    by k = p
+
+-- the design with what its `always_comb` watch
+abbrev pub watching : Parts → Parts
+watching d = record d { processes = map (with_watches d) d.processes }
+
+-- ---- numbers
+
+-- the instances that are programs
+abbrev pub program_paths : List Instance → List Path
+program_paths [] = []
+program_paths (i ∷ is) = if i.is_program then i.path ∷ program_paths is else program_paths is
+
+-- the numbers of the classes that are derived from one
+abbrev pub derived_ids : ℕ → List ClassInfo → Path → List Path → List ClassId
+derived_ids n ks p [] = []
+derived_ids n ks p (q ∷ qs) =
+    if is_derived ks q p then record { 0 = n } ∷ derived_ids (suc n) ks p qs else derived_ids (suc n) ks p qs
+
+-- the numbers of parts are their positions in the lists of the design
+abbrev pub numbers_of : List Instance → List ClassInfo → Given_parts → Numbers
+numbers_of is ks g =
+    record {
+      object = λ p. record { 0 = position_of 0 p (map (λ o. o.path) (g.objects ++ flat_map (λ m. m.samples) g.clockings)) };
+      class = λ p. record { 0 = position_of 0 p g.class_paths };
+      derived = λ p. derived_ids 0 ks p g.class_paths;
+      subroutine = λ p. record { 0 = position_of 0 p (map (λ m. m.path) g.subroutines) };
+      clocking = λ p. record { 0 = position_of 0 p (map (λ m. m.path) g.clockings) };
+      program = λ p. position_of 0 p (program_paths is);
+    }
+
+-- before there are numbers; no rule looks at them
+abbrev pub no_numbers : Numbers
+no_numbers =
+    record {
+      object = λ p. record { 0 = 0 };
+      class = λ p. record { 0 = 0 };
+      derived = λ p. [];
+      subroutine = λ p. record { 0 = 0 };
+      clocking = λ p. record { 0 = 0 };
+      program = λ p. 0;
+    }
+
+-- ---- the definition of elaboration
+
+-- what the items on the walk and outside units give
+abbrev pub given_parts : List Description → Around → Group → List Walked → Checked (List Given_parts)
+given_parts us files g ws = each (λ c. c) (file_parts us files g ++ map (walked_parts us files) ws)
+
+-- all classes of the design
+abbrev pub class_infos : Group → List Walked → List ClassInfo
+class_infos g ws = g.classes ++ flat_map of_walked ws
+  where
+    of_walked : Walked → List ClassInfo
+    of_walked (Enter i) = i.group.classes
+    of_walked w = []
+
+-- once without numbers, and once with those that the parts then have
+abbrev pub numbered : Scale → List Description → Group → List Walked → Given_parts → Checked Parts
+numbered s us g ws first =
+    given (λ gs. watching (parts_from s (flat_map instance_of ws) (all_parts gs)))
+    (given_parts us (file_around (numbers_of (flat_map instance_of ws) (class_infos g ws) first) s g) g ws)
+
+-- what is met on the walk, and outside units
+abbrev pub all_met : List Description → Around → Group → List Walked → List Met
+all_met us files g ws = map (met_outside files g) (outside us) ++ map (met (around_inst us files)) ws
+
+-- E20, E22, E23, E44: the rules on writers and limits, over what is met
+abbrev pub met_stand : Group → List Walked → List Met → Checked (Unit {0})
+met_stand g ws ms =
+    writers_stand (class_infos g ws) (flat_map (λ m. m.table) ms) (Sources.numbered 0 (flat_map (λ m. m.processes) ms))
+    (flat_map initialized ws)
+    where_also limits_stand ms
+
+-- the flat design of what is walked
+abbrev pub design_over : Scale → List Description → Group → List Walked → Checked Parts
+design_over s us g ws =
+    (given_parts us (file_around no_numbers s g) g ws where_also met_stand g ws (all_met us (file_around no_numbers s g) g ws))
+    ▷ (λ gs. numbered s us g ws (all_parts gs))
+
+-- the flat design over the scope of the files
+abbrev pub with_files : Scale → List Description → Option (List ℕ) → Group → Checked Parts
+with_files s us top g = design_over s us g (walked us (file_around no_numbers s g) top)
+
+-- the flat design, or the first broken rule
+abbrev pub elaborated : List Description → List Timescale → Option (List ℕ) → Checked Parts
+elaborated us scales top =
+    with_files (scale_of scales) us top (file_group no_numbers (scale_of scales) us)
+    where_also scales_agree scales
+    where_also some_root (roots us top)
+
+-- the first broken rule
+abbrev pub broken : List Description → List Timescale → Option (List ℕ) → Option Fault
+broken us scales top = fault_of (elaborated us scales top)
+
+-- the flat design where no rule is broken
+abbrev pub flat : List Description → List Timescale → Option (List ℕ) → Option Parts
+flat us scales top = value_if (elaborated us scales top)
