@@ -1,8 +1,9 @@
+-- What elaboration makes of texts, computed from their trees.
 mod Kit
-mod Worked
 mod Rules
-mod Edges
+mod Worked
 mod Forms
+mod Edges
 mod Files
 mod Cycles
 mod Kinds

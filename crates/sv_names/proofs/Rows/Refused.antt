@@ -1,3 +1,4 @@
+-- Texts that break a rule, or come close to it.
 mod Declarations
 mod Members
 mod Classes

@@ -1,3 +1,4 @@
+-- Texts that differ in a word or two from others.
 mod Declarations
 mod Members
 mod Classes

@@ -226,7 +226,6 @@ t16_seen = refl
 -- class B; function void f(); endfunction endclass
 -- module t; initial begin B p;
 -- p.f(); end endmodule
---
 abbrev t17 : List Description
 t17 = descriptions.Item (items.Class (class_ (at 0 1 1) false (name (at 0 1 7) "B") None (method unqualified (routine (head (at 0 1 10) life.Unwritten units.Void (name (at 0 1 24) "f") []) [] [] None) ∷ []) None)) ∷ module_ (at 0 2 1) life.Unwritten (name (at 0 2 8) "t") None [] (procedure (at 0 2 11) procedure_word.Initial (stmts.Statement (at 0 2 19) None (stmts.Block None (decl life.Unwritten (types.Named (name (at 0 2 25) "B")) (declarator (name (at 0 2 27) "p") None None ∷ []) ∷ []) (statements (stmts.Statement (at 0 3 1) None (stmts.Call (tree.Expr.Post (root.Plain (name (at 0 3 1) "p")) (tree.Member (name (at 0 3 3) "f") (tree.Call (at 0 3 4) tree.NoExpr tree.NoSuffix)))) ∷ [])) None)) ∷ []) None ∷ []
 
@@ -269,7 +268,6 @@ t21_seen = refl
 -- module t(input logic en, d, output logic y);
 -- always_comb if (en) y = d;
 -- endmodule
---
 abbrev t22 : List Description
 t22 = module_ (at 0 1 1) life.Unwritten (name (at 0 1 8) "t") None (port (Some port_direction.Input) false (types.Written (types.WrittenType.Vector (at 0 1 16) vector_word.Logic sign.Unwritten None)) (name (at 0 1 22) "en") ∷ port None false types.Unwritten (name (at 0 1 26) "d") ∷ port (Some port_direction.Output) false (types.Written (types.WrittenType.Vector (at 0 1 36) vector_word.Logic sign.Unwritten None)) (name (at 0 1 42) "y") ∷ []) (procedure (at 0 2 1) procedure_word.AlwaysComb (stmts.Statement (at 0 2 13) None (stmts.If (plain (at 0 2 17) "en") (stmts.Statement (at 0 2 21) None (blocking (target (at 0 2 21) "y") None (stmts.Value (plain (at 0 2 25) "d")))))) ∷ []) None ∷ []
 
@@ -625,7 +623,6 @@ t48_seen = refl
 -- endfunction
 -- initial $display("%0d", f(1001));
 -- endmodule
---
 abbrev t49 : List Description
 t49 = module_ (at 0 1 1) life.Unwritten (name (at 0 1 8) "t") None [] (items.Routine (routine (head (at 0 2 1) life.Automatic (units.Returns.Value (types.Written (types.Atom (at 0 2 20) atom_word.Int sign.Unwritten))) (name (at 0 2 24) "f") (argument None (types.Written (types.Atom (at 0 2 26) atom_word.Int sign.Unwritten)) (name (at 0 2 30) "n") None ∷ [])) [] (stmts.Statement (at 0 3 1) None (stmts.If (tree.Binary binary_word.Greater (at 0 3 7) (plain (at 0 3 5) "n") (number (at 0 3 9) "1")) (stmts.Statement (at 0 4 1) None (stmts.Return (Some (tree.Expr.Post (root.Plain (name (at 0 4 8) "f")) (tree.Call (at 0 4 9) (expressions (tree.Binary binary_word.Minus (at 0 4 12) (plain (at 0 4 10) "n") (number (at 0 4 14) "1") ∷ [])) tree.NoSuffix)))))) ∷ stmts.Statement (at 0 5 1) None (stmts.Return (Some (number (at 0 5 8) "1"))) ∷ []) None) ∷ procedure (at 0 7 1) procedure_word.Initial (stmts.Statement (at 0 7 9) None (stmts.Call (system (at 0 7 9) "$display" (text (at 0 7 18) "%0d" ∷ tree.Expr.Post (root.Plain (name (at 0 7 25) "f")) (tree.Call (at 0 7 26) (expressions (number (at 0 7 27) "1001" ∷ [])) tree.NoSuffix) ∷ [])))) ∷ []) None ∷ []
 
@@ -641,7 +638,6 @@ t49_seen = refl
 -- endfunction
 -- initial $display("%0d", f(1000));
 -- endmodule
---
 abbrev t50 : List Description
 t50 = module_ (at 0 1 1) life.Unwritten (name (at 0 1 8) "t") None [] (items.Routine (routine (head (at 0 2 1) life.Automatic (units.Returns.Value (types.Written (types.Atom (at 0 2 20) atom_word.Int sign.Unwritten))) (name (at 0 2 24) "f") (argument None (types.Written (types.Atom (at 0 2 26) atom_word.Int sign.Unwritten)) (name (at 0 2 30) "n") None ∷ [])) [] (stmts.Statement (at 0 3 1) None (stmts.If (tree.Binary binary_word.Greater (at 0 3 7) (plain (at 0 3 5) "n") (number (at 0 3 9) "1")) (stmts.Statement (at 0 4 1) None (stmts.Return (Some (tree.Expr.Post (root.Plain (name (at 0 4 8) "f")) (tree.Call (at 0 4 9) (expressions (tree.Binary binary_word.Minus (at 0 4 12) (plain (at 0 4 10) "n") (number (at 0 4 14) "1") ∷ [])) tree.NoSuffix)))))) ∷ stmts.Statement (at 0 5 1) None (stmts.Return (Some (number (at 0 5 8) "1"))) ∷ []) None) ∷ procedure (at 0 7 1) procedure_word.Initial (stmts.Statement (at 0 7 9) None (stmts.Call (system (at 0 7 9) "$display" (text (at 0 7 18) "%0d" ∷ tree.Expr.Post (root.Plain (name (at 0 7 25) "f")) (tree.Call (at 0 7 26) (expressions (number (at 0 7 27) "1000" ∷ [])) tree.NoSuffix) ∷ [])))) ∷ []) None ∷ []
 
@@ -653,7 +649,6 @@ t50_seen = refl
 -- repeat (1048576) q.push_back(0); $display("%0d", q.size());
 -- q.push_back(0);
 -- end endmodule
---
 abbrev t51 : List Description
 t51 = module_ (at 0 1 1) life.Unwritten (name (at 0 1 8) "t") None [] (items.Decl (decl life.Unwritten (types.Atom (at 0 1 11) atom_word.Int sign.Unwritten) (declarator (name (at 0 1 15) "q") (Some (stmts.Queue (at 0 1 16))) None ∷ [])) ∷ procedure (at 0 1 21) procedure_word.Initial (stmts.Statement (at 0 1 29) None (stmts.Block None [] (statements (stmts.Statement (at 0 2 1) None (stmts.Repeat (number (at 0 2 9) "1048576") (stmts.Statement (at 0 2 18) None (stmts.Call (tree.Expr.Post (root.Plain (name (at 0 2 18) "q")) (tree.Member (name (at 0 2 20) "push_back") (tree.Call (at 0 2 29) (expressions (number (at 0 2 30) "0" ∷ [])) tree.NoSuffix)))))) ∷ stmts.Statement (at 0 2 34) None (stmts.Call (system (at 0 2 34) "$display" (text (at 0 2 43) "%0d" ∷ tree.Expr.Post (root.Plain (name (at 0 2 50) "q")) (tree.Member (name (at 0 2 52) "size") (tree.Call (at 0 2 56) tree.NoExpr tree.NoSuffix)) ∷ []))) ∷ stmts.Statement (at 0 3 1) None (stmts.Call (tree.Expr.Post (root.Plain (name (at 0 3 1) "q")) (tree.Member (name (at 0 3 3) "push_back") (tree.Call (at 0 3 12) (expressions (number (at 0 3 13) "0" ∷ [])) tree.NoSuffix)))) ∷ [])) None)) ∷ []) None ∷ []
 
