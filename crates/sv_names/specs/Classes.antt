@@ -15,7 +15,7 @@ use Rattle.sv_names.specs.declared.checked.Checked.{Checked}
 use Rattle.sv_names.specs.declared.checked.Checked.TheVariants.{Good, Broken}
 use Rattle.sv_names.specs.declared.named.Known.{Known}
 use Rattle.sv_names.specs.declared.named.Named.{Named}
-use Rattle.sv_names.specs.declared.named.Named.TheVariants.{Property, StaticProperty as Static_property, Subroutine}
+use Rattle.sv_names.specs.declared.named.Named.TheVariants.{Property, StaticProperty, Subroutine}
 use Rattle.sv_names.specs.declared.named.Callee.{Callee}
 use Rattle.sv_names.specs.declared.named.Formal.{Formal}
 use Rattle.sv_names.specs.Checked.{both, ◌▷◌, given, rule, fine, ◌where_also◌, each, all}
@@ -27,18 +27,18 @@ use Rattle.sv_names.specs.Groups.{Head, base_stands, not_cyclic, in_class}
 use Rattle.sv_names.specs.Code.{object_at, home_of}
 use Rattle.sv_names.specs.Assignments.{initial_of}
 use Rattle.sv_names.specs.Blocks.{end_label}
-use Rattle.sv_names.specs.Subroutines.{Made_subroutine, made_subroutine, nothing_before, pure_stands, implied_constructor, written_constructor, constructor_path}
+use Rattle.sv_names.specs.Subroutines.{MadeSubroutine, made_subroutine, nothing_before, pure_stands, implied_constructor, written_constructor, constructor_path}
 
 -- what a class gives to the flat design
-pub record Class_parts : Type 0 where
+pub record ClassParts : Type 0 where
   pub objects : List Object
-  pub subroutines : List Made_subroutine
+  pub subroutines : List MadeSubroutine
   pub class : Class
 
 -- ---- methods and constructors
 
 -- a method that is no constructor
-abbrev pub method_of : Around → ClassInfo → tree_class.ClassItem → Checked (List Made_subroutine)
+abbrev pub method_of : Around → ClassInfo → tree_class.ClassItem → Checked (List MadeSubroutine)
 method_of ar k (tree_class.Method m) =
     if is_constructor m.routine.head then Good []
     else given (λ x. x ∷ []) (made_subroutine ar k.path m.qualifiers (Some k.path) m.routine m.routine.stmts nothing_before)
@@ -50,7 +50,7 @@ abbrev pub joined : {A : Type 0} → Checked (List (List A)) → Checked (List A
 joined c = given (flat_map (λ x. x)) c
 
 -- the constructor that is written, or the implied one
-abbrev pub constructor_of : Around → ClassInfo → (whole rest : List tree_class.ClassItem) → Checked Made_subroutine
+abbrev pub constructor_of : Around → ClassInfo → (whole rest : List tree_class.ClassItem) → Checked MadeSubroutine
 constructor_of ar k whole [] = implied_constructor ar k whole
 constructor_of ar k whole (tree_class.Method m ∷ is) =
     if is_constructor m.routine.head then written_constructor ar k whole m.qualifiers m.routine
@@ -64,7 +64,7 @@ abbrev pub static_object : Around → ClassInfo → Declarator → Checked (List
 static_object ar k x = of_known (in_known 0 0 x.name.text k.scope.known)
   where
     of_named : Named → Checked (List Object)
-    of_named (Static_property c g p t) =
+    of_named (StaticProperty c g p t) =
         given (λ i. object_at ar object_kind.Variable false true false x.name.at p t i ∷ [])
         (initial_of ar x.name.at (Good t) x.init)
     of_named n = Good []
@@ -201,7 +201,7 @@ class_stands ar k c =
     where_also rule 35 k.name.at (not k.is_virtual && some_left ar k k.slots)
 
 -- `ar` is the scope around the class
-abbrev pub class_parts : Around → ClassInfo → tree_class.Class → Checked Class_parts
+abbrev pub class_parts : Around → ClassInfo → tree_class.Class → Checked ClassParts
 class_parts ar k c =
     let i : Around = in_class k.path ar in
     given (λ p. record { objects = p.0; subroutines = p.1.0 ∷ p.1.1; class = flat_class ar k })

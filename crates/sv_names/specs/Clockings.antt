@@ -103,7 +103,7 @@ output_skew None = 1
 output_skew (Some n) = n
 
 -- a signal, and the net that it drives
-pub record Made_signal : Type 0 where
+pub record MadeSignal : Type 0 where
   pub drives : List Path
   pub signal : (driver : ℕ) → Signal
 
@@ -113,7 +113,7 @@ net_of (Net p t) = p ∷ []
 net_of n = []
 
 -- a signal of the flat design
-abbrev pub signal_made : Around → Skews → Name → SignalInfo → Named → Made_signal
+abbrev pub signal_made : Around → Skews → Name → SignalInfo → Named → MadeSignal
 signal_made ar k n s x =
     record {
       drives = if s.is_output then net_of x else [];
@@ -126,19 +126,19 @@ signal_made ar k n s x =
     }
 
 -- a signal by its name in the unit
-abbrev pub signal_named : Around → Path → Skews → List Sided → Name → Checked Made_signal
+abbrev pub signal_named : Around → Path → Skews → List Sided → Name → Checked MadeSignal
 signal_named ar p k ds n =
     meaning ar n where_also kind_stands ar 46 n.at is_object_kind n.text
     ▷ (λ x. given (λ s. signal_made ar k n s x) (signal_of_named ar.unit p n ds x))
 
 -- the signals of one item
-abbrev pub item_signals : Around → Path → Skews → ClockingItem → Checked (List Made_signal)
+abbrev pub item_signals : Around → Path → Skews → ClockingItem → Checked (List MadeSignal)
 item_signals ar p k (tree_unit.Default ss) = Good []
 item_signals ar p k (tree_unit.Signals ds ns) =
     with_skews ar k ds ▷ (λ j. each (signal_named ar p j ds) ns) where_also only (each (signal_named ar p k ds) ns)
 
 -- all signals, in order
-abbrev pub signals_of : Around → Path → Skews → List ClockingItem → Checked (List Made_signal)
+abbrev pub signals_of : Around → Path → Skews → List ClockingItem → Checked (List MadeSignal)
 signals_of ar p k [] = Good []
 signals_of ar p k (i ∷ is) = given (λ q. q.0 ++ q.1) (both (item_signals ar p k i) (signals_of ar p k is))
 
@@ -168,7 +168,7 @@ event_object n x = broken_at 45 n.at
 -- ---- clocking blocks
 
 -- a clocking block, with its samples and the nets that it drives
-pub record Made_clocking : Type 0 where
+pub record MadeClocking : Type 0 where
   pub path : Path
   pub drives : List Path
   pub samples : List Object
@@ -185,7 +185,7 @@ driver_of before [] = 0
 driver_of before (p ∷ ps) = times_in p before
 
 -- the signals, with the drivers of those before
-abbrev pub signals_after : List Path → List Made_signal → List Signal
+abbrev pub signals_after : List Path → List MadeSignal → List Signal
 signals_after before [] = []
 signals_after before (s ∷ ss) = s.signal (driver_of before s.drives) ∷ signals_after (before ++ s.drives) ss
 
@@ -205,7 +205,7 @@ side_of true = Reactive
 side_of false = Active
 
 -- a clocking block of the flat design
-abbrev pub clocking_made : Around → Path → ClockingBlock → List (Checked SignalInfo) → Path → List Made_signal → Made_clocking
+abbrev pub clocking_made : Around → Path → ClockingBlock → List (Checked SignalInfo) → Path → List MadeSignal → MadeClocking
 clocking_made ar p b infos event ss =
     record {
       path = p;
@@ -226,7 +226,7 @@ abbrev pub event_of : Around → Name → Checked Path
 event_of ar n = meaning ar n where_also kind_stands ar 45 n.at is_object_kind n.text ▷ event_object n
 
 -- E5, E45, E46: a clocking block; `p` is its path
-abbrev pub clocking_of : Around → Path → ClockingBlock → Checked Made_clocking
+abbrev pub clocking_of : Around → Path → ClockingBlock → Checked MadeClocking
 clocking_of ar p b =
     given (λ q. clocking_made ar p b (signals_in ar p b.items) q.0 q.1)
     (both (event_of ar b.event) (defaults ar usual_skews b.items ▷ (λ k. signals_of ar p k b.items)))

@@ -26,7 +26,7 @@ use Rattle.sv_names.specs.declared.ty.Ty.{Ty}
 use Rattle.sv_names.specs.declared.ty.Ty.TheVariants.{Vector as Bit_vector, Enum, Text, Event, Class, Semaphore, Mailbox, MailboxOf, Queue, Dynamic, Assoc, Fixed}
 use Rattle.sv_names.specs.declared.typed.Typed.{Typed}
 use Rattle.sv_names.specs.declared.named.Named.{Named}
-use Rattle.sv_names.specs.declared.named.Named.TheVariants.{Variable, Net, Input, Local, Property, StaticProperty as Static_property, Constant, TypeName as Type_name, ClassName as Class_name, Other}
+use Rattle.sv_names.specs.declared.named.Named.TheVariants.{Variable, Net, Input, Local, Property, StaticProperty, Constant, TypeName, ClassName, Other}
 use Rattle.sv_names.specs.declared.named.Kind.TheVariants.{Constant as Of_constant}
 use Rattle.sv_names.specs.Checked.{both, ◌▷◌, given, broken_at, fine, ◌where_also◌, only, unless}
 use Rattle.sv_names.specs.Types.{Path, integral, integral_or, is_integral, is_four_state, width_of_type, plain_vector, int_type, whole, as_element, as_key}
@@ -58,8 +58,8 @@ ranged s f at l r =
 
 -- E7: a name that stands for a type or a class
 abbrev pub type_named : Place → Named → Checked Ty
-type_named at (Type_name t) = Good t
-type_named at (Class_name p) = Good (Class p)
+type_named at (TypeName t) = Good t
+type_named at (ClassName p) = Good (Class p)
 type_named at n = broken_at 7 at
 
 -- E7: the base of an enum is integral and no enum
@@ -151,8 +151,8 @@ keyed_array at k = given (λ x. Assoc x) (may_be_key at k)
 
 -- a name alone in brackets names a type or a constant
 abbrev pub dimension_named : Around → Name → Named → Checked (Element → Ty)
-dimension_named ar n (Type_name t) = keyed_array n.at t
-dimension_named ar n (Class_name p) = keyed_array n.at (Class p)
+dimension_named ar n (TypeName t) = keyed_array n.at t
+dimension_named ar n (ClassName p) = keyed_array n.at (Class p)
 dimension_named ar n x = sized_array ar (tree.Post (root.Plain n) tree.NoSuffix)
 
 -- what a dimension makes of a type
@@ -288,10 +288,10 @@ value_of_entry ar s e (A_net g r) = given (Net (s ++ e.name.text ∷ [])) (vecto
 value_of_entry ar s e (A_port i w t) = given (port_named i w (is_written t) (s ++ e.name.text ∷ [])) (implied ar s t)
 value_of_entry ar s e (A_property k g w d) = given (Property k g e.name) (declared_type ar s w d)
 value_of_entry ar s e (A_static_property k g w d) =
-    given (Static_property k g (s ++ e.name.text ∷ [])) (declared_type ar s w d)
+    given (StaticProperty k g (s ++ e.name.text ∷ [])) (declared_type ar s w d)
 value_of_entry ar s e (A_parameter i v) = given (λ t. Constant t true) (parameter_value ar s i v)
-value_of_entry ar s e (A_type w) = given Type_name (type_of ar s w)
+value_of_entry ar s e (A_type w) = given TypeName (type_of ar s w)
 value_of_entry ar s e (An_item w v n) = given (λ t. Constant t false) (item_value ar s e.name w v n)
-value_of_entry ar s e (A_class p) = Good (Class_name p)
+value_of_entry ar s e (A_class p) = Good (ClassName p)
 value_of_entry ar s e (The_object_of k) = Good (Local 0 0 (Class k))
 value_of_entry ar s e d = Good Other

@@ -31,14 +31,14 @@ use Rattle.sv_names.specs.Named.{Around, is_derived}
 use Rattle.sv_names.specs.Groups.{Group}
 use Rattle.sv_names.specs.Code.{Numbered, followed, just}
 use Rattle.sv_names.specs.Watched.{operands_of, targets_of, is_written, object_of, on_change}
-use Rattle.sv_names.specs.Subroutines.{Made_subroutine}
-use Rattle.sv_names.specs.Clockings.{Made_clocking, times_in}
+use Rattle.sv_names.specs.Subroutines.{MadeSubroutine}
+use Rattle.sv_names.specs.Clockings.{MadeClocking, times_in}
 use Rattle.sv_names.specs.Writers.{writers_stand}
 use Rattle.sv_names.specs.Sources
 use Rattle.sv_names.specs.Sources.{Met, met, met_outside, limits_stand, initialized}
 use Rattle.sv_names.specs.Instances.{Walked, Enter, roots, some_root, walked, file_group, file_around, outside}
 use Rattle.sv_names.specs.Connections.{Made}
-use Rattle.sv_names.specs.Items.{around_inst, walked_parts, file_parts, Given_parts}
+use Rattle.sv_names.specs.Items.{around_inst, walked_parts, file_parts, GivenParts}
 
 -- ---- the time scale (E54)
 
@@ -69,12 +69,12 @@ processes_in before [] = just []
 processes_in before (m ∷ ms) = followed (λ x xs. x ∷ xs) (m.make before) (processes_in (before ++ m.drives) ms)
 
 -- the subroutines, with what their statements add
-abbrev pub subroutines_in : List Made_subroutine → Numbered (List Routine)
+abbrev pub subroutines_in : List MadeSubroutine → Numbered (List Routine)
 subroutines_in [] = just []
 subroutines_in (m ∷ ms) = followed (λ x xs. x ∷ xs) m.routine (subroutines_in ms)
 
 -- the clocking blocks, with the drivers before
-abbrev pub clockings_in : List Path → List Made_clocking → List Clocking
+abbrev pub clockings_in : List Path → List MadeClocking → List Clocking
 clockings_in before [] = []
 clockings_in before (m ∷ ms) = m.clocking before ∷ clockings_in (before ++ m.drives) ms
 
@@ -92,7 +92,7 @@ instance_of (Enter i) = record { path = i.path; is_program = i.unit.is_program }
 instance_of _ = []
 
 -- the subroutines come first, then what their statements add, then the routines of processes
-abbrev pub parts_from : Scale → List Instance → Given_parts → Parts
+abbrev pub parts_from : Scale → List Instance → GivenParts → Parts
 parts_from s is g =
     let subs : List Routine × List Routine = (subroutines_in g.subroutines).make (length g.subroutines) in
     let procs : List Process × List Routine = (processes_in [] g.processes).make (length g.subroutines + length subs.1) in
@@ -108,7 +108,7 @@ parts_from s is g =
     }
 
 -- what all items give
-abbrev pub all_parts : List Given_parts → Given_parts
+abbrev pub all_parts : List GivenParts → GivenParts
 all_parts gs =
     record {
       objects = flat_map (λ g. g.objects) gs;
@@ -176,7 +176,7 @@ derived_ids n ks p (q ∷ qs) =
     if is_derived ks q p then record { 0 = n } ∷ derived_ids (suc n) ks p qs else derived_ids (suc n) ks p qs
 
 -- the numbers of parts are their positions in the lists of the design
-abbrev pub numbers_of : List Instance → List ClassInfo → Given_parts → Numbers
+abbrev pub numbers_of : List Instance → List ClassInfo → GivenParts → Numbers
 numbers_of is ks g =
     record {
       object = λ p. record { 0 = position_of 0 p (map (λ o. o.path) (g.objects ++ flat_map (λ m. m.samples) g.clockings)) };
@@ -202,7 +202,7 @@ no_numbers =
 -- ---- the definition of elaboration
 
 -- what the items on the walk and outside units give
-abbrev pub given_parts : List Description → Around → Group → List Walked → Checked (List Given_parts)
+abbrev pub given_parts : List Description → Around → Group → List Walked → Checked (List GivenParts)
 given_parts us files g ws = each (λ c. c) (file_parts us files g ++ map (walked_parts us files) ws)
 
 -- all classes of the design
@@ -214,7 +214,7 @@ class_infos g ws = g.classes ++ flat_map of_walked ws
     of_walked w = []
 
 -- once without numbers, and once with those that the parts then have
-abbrev pub numbered : Scale → List Description → Group → List Walked → Given_parts → Checked Parts
+abbrev pub numbered : Scale → List Description → Group → List Walked → GivenParts → Checked Parts
 numbered s us g ws first =
     given (λ gs. watching (parts_from s (flat_map instance_of ws) (all_parts gs)))
     (given_parts us (file_around (numbers_of (flat_map instance_of ws) (class_infos g ws) first) s g) g ws)

@@ -11,7 +11,7 @@ use Rattle.sv_tree.specs.Expr as tree
 use Rattle.sv_tree.specs.Expr.{place_of, place_of_root, place_of_cast}
 use Rattle.sv_names.specs.declared.typed.How.{How}
 use Rattle.sv_names.specs.declared.around.Dollar.{Dollar}
-use Rattle.sv_names.specs.declared.around.Dollar.TheVariants.{NoDollar as No_dollar, UnknownDollar as Unknown_dollar, LastIndex as Last_index}
+use Rattle.sv_names.specs.declared.around.Dollar.TheVariants.{NoDollar, UnknownDollar, LastIndex}
 use Rattle.sv_names.specs.declared.checked.Fault.{Fault}
 use Rattle.sv_names.specs.declared.checked.Checked.{Checked}
 use Rattle.sv_names.specs.declared.checked.Checked.TheVariants.{Good, Broken}
@@ -19,7 +19,7 @@ use Rattle.sv_names.specs.declared.ty.Ty.{Ty}
 use Rattle.sv_names.specs.declared.ty.Ty.TheVariants.{Vector as Bit_vector, Text, Event, Class, Semaphore, Mailbox, Null}
 use Rattle.sv_names.specs.declared.typed.Typed.{Typed}
 use Rattle.sv_names.specs.declared.named.Named.{Named}
-use Rattle.sv_names.specs.declared.named.Named.TheVariants.{TypeName as Type_name, ClassName as Class_name}
+use Rattle.sv_names.specs.declared.named.Named.TheVariants.{TypeName, ClassName}
 use Rattle.sv_names.specs.Literals.{text_of}
 use Rattle.sv_names.specs.Checked.{both, ◌▷◌, given, broken_at, ◌where_also◌, only, also_broken}
 use Rattle.sv_names.specs.Types.{is_integral, is_container, selectable, plain_vector, int_type, width_of_type, is_four_state, integral, same_bytes, whole}
@@ -103,8 +103,8 @@ abbrev pub type_in : Around → tree.Expr → Option (Checked Ty)
 type_in ar (tree.Post (root.Plain n) tree.NoSuffix) = of_name (found ar n.text)
   where
     of_name : Option (Checked Named) → Option (Checked Ty)
-    of_name (Some (Good (Type_name t))) = Some (Good t)
-    of_name (Some (Good (Class_name p))) = Some (broken_at 15 n.at)
+    of_name (Some (Good (TypeName t))) = Some (Good t)
+    of_name (Some (Good (ClassName p))) = Some (broken_at 15 n.at)
     of_name (Some (Broken f)) = if names_type ar n.text then Some (told_at n f ▷ (λ x. broken_at 7 n.at)) else None
     of_name m = None
 type_in ar e = None
@@ -157,8 +157,8 @@ first_type ar a = None
 
 -- a cast to a named type, or to a constant width
 abbrev pub cast_by_name : Around → Place → Place → Place → Named → Checked Typed → Checked Typed
-cast_by_name ar pe pn at (Type_name t) e = e ▷ cast_to ar t pe at
-cast_by_name ar pe pn at (Class_name k) e = e ▷ cast_to ar (Class k) pe at
+cast_by_name ar pe pn at (TypeName t) e = e ▷ cast_to ar t pe at
+cast_by_name ar pe pn at (ClassName k) e = e ▷ cast_to ar (Class k) pe at
 cast_by_name ar pe pn at n e =
     both (named_thing ar pn n ▷ thing_value ar pn ▷ constant_count pn) e ▷ (λ p. sized pe at p.0 p.1)
 
@@ -208,9 +208,9 @@ in_index th t ar = behind (length t.code.hidden) (with_dollar (dollar_in th) ar)
 
 -- E7: `$` stands in the index of a queue
 abbrev pub dollar_typed : Place → Dollar → Checked Typed
-dollar_typed at No_dollar = broken_at 7 at
-dollar_typed at (Unknown_dollar f) = Broken f
-dollar_typed at (Last_index e) = Good (value_typed int_type at false (pure e))
+dollar_typed at NoDollar = broken_at 7 at
+dollar_typed at (UnknownDollar f) = Broken f
+dollar_typed at (LastIndex e) = Good (value_typed int_type at false (pure e))
 
 -- a string literal
 abbrev pub literal_text : tree.Expr → Option (List ℕ)

@@ -18,7 +18,7 @@ use Rattle.sv_tree.specs.Units.{Connection, Param}
 use Rattle.sv_tree.specs.Items as tree_item
 use Rattle.sv_tree.specs.Items.{Item, DesignElement}
 use Rattle.sv_tree.specs.Descriptions.{Description}
-use Rattle.sv_names.specs.declared.around.Dollar.TheVariants.{NoDollar as No_dollar}
+use Rattle.sv_names.specs.declared.around.Dollar.TheVariants.{NoDollar}
 use Rattle.sv_names.specs.declared.around.Returns.TheVariants.{Outside}
 use Rattle.sv_names.specs.declared.checked.Checked.{Checked}
 use Rattle.sv_names.specs.Checked.{broken_at, fine}
@@ -227,7 +227,7 @@ nowhere_around ns s =
       may_not_wait = false;
       is_comb = false;
       clocked = None;
-      dollar = No_dollar;
+      dollar = NoDollar;
       is_loop = false;
       returns = Outside;
       default_clocking = None;

@@ -29,7 +29,7 @@ use Rattle.sv_names.specs.declared.checked.Checked.TheVariants.{Good}
 use Rattle.sv_names.specs.declared.ty.Ty.{Ty}
 use Rattle.sv_names.specs.declared.ty.Ty.TheVariants.{Nothing}
 use Rattle.sv_names.specs.declared.named.Named.{Named}
-use Rattle.sv_names.specs.declared.named.Named.TheVariants.{Variable, Net, Input, ClockingBlock as Clocking_block}
+use Rattle.sv_names.specs.declared.named.Named.TheVariants.{Variable, Net, Input, ClockingBlock}
 use Rattle.sv_names.specs.Checked.{both, ◌▷◌, given, broken_at, rule, fine, ◌where_also◌, each, all}
 use Rattle.sv_names.specs.Types.{Path, among}
 use Rattle.sv_names.specs.Named.{Around, class_in, in_known, meaning}
@@ -40,25 +40,25 @@ use Rattle.sv_names.specs.Code.{Code, changed, as_routine, object_at}
 use Rattle.sv_names.specs.Assignments.{initial_of}
 use Rattle.sv_names.specs.Blocks.{end_label}
 use Rattle.sv_names.specs.Statements.{stmt, at_event, place_from}
-use Rattle.sv_names.specs.Subroutines.{Made_subroutine, made_subroutine, nothing_before}
-use Rattle.sv_names.specs.Classes.{Class_parts, class_parts, bases_stand, announcements_stand, joined}
-use Rattle.sv_names.specs.Clockings.{Made_clocking, clocking_of}
+use Rattle.sv_names.specs.Subroutines.{MadeSubroutine, made_subroutine, nothing_before}
+use Rattle.sv_names.specs.Classes.{ClassParts, class_parts, bases_stand, announcements_stand, joined}
+use Rattle.sv_names.specs.Clockings.{MadeClocking, clocking_of}
 use Rattle.sv_names.specs.Instances.{Definition, Inst, Walked, Enter, Meet, Connect, Pass, PortInfo, ports_of, port_names, definition_named, param_names, file_entries, file_heads, outside, no_qualifiers, within_inst}
 use Rattle.sv_names.specs.Connections.{Made, assign_made, net_made, port_link, connections_fit, connections_stand}
 
 -- ---- what an item gives
 
 -- what an item gives to the flat design
-pub record Given_parts : Type 0 where
+pub record GivenParts : Type 0 where
   pub objects : List Object
   pub processes : List Made
-  pub subroutines : List Made_subroutine
+  pub subroutines : List MadeSubroutine
   pub classes : List Class
   pub class_paths : List Path
-  pub clockings : List Made_clocking
+  pub clockings : List MadeClocking
 
 -- an item that gives nothing
-abbrev pub nothing : Given_parts
+abbrev pub nothing : GivenParts
 nothing = record { objects = []; processes = []; subroutines = []; classes = []; class_paths = []; clockings = [] }
 
 -- ---- procedures
@@ -116,7 +116,7 @@ procedure_code ar p = of_word p.word
     of_word w = stmt ar p.body
 
 -- a procedure as a process
-abbrev pub procedure_made : Around → Procedure → Code → Given_parts
+abbrev pub procedure_made : Around → Procedure → Code → GivenParts
 procedure_made ar p c =
     record nothing {
       objects = c.objects;
@@ -222,7 +222,7 @@ abbrev pub block_path : Group → List ℕ → Option Path
 block_path g x = of_known (in_known 0 0 x g.scope.known)
   where
     of_known : Option (Checked Named) → Option Path
-    of_known (Some (Good (Clocking_block p ss))) = Some p
+    of_known (Some (Good (ClockingBlock p ss))) = Some p
     of_known k = None
 
 -- the default clocking of a unit
@@ -234,7 +234,7 @@ default_in g (i ∷ more) = default_in g more
 
 -- E7: what is made the default is a clocking block
 abbrev pub is_block : Place → Named → Checked (Unit {0})
-is_block at (Clocking_block p ss) = fine
+is_block at (ClockingBlock p ss) = fine
 is_block at n = broken_at 7 at
 
 -- ---- all items
@@ -244,7 +244,7 @@ abbrev pub flattened : Checked (List (List Object)) → Checked (List Object)
 flattened c = joined c
 
 -- what classes give
-abbrev pub classes_parts : List Class_parts → List Path → Given_parts
+abbrev pub classes_parts : List ClassParts → List Path → GivenParts
 classes_parts cs ps =
     record nothing {
       objects = flat_map (λ c. c.objects) cs;
@@ -254,25 +254,25 @@ classes_parts cs ps =
     }
 
 -- a class
-abbrev pub class_made : Around → tree_class.Class → Path → Checked Given_parts
+abbrev pub class_made : Around → tree_class.Class → Path → Checked GivenParts
 class_made ar c p = of_info (class_in ar.classes p)
   where
-    of_info : Option ClassInfo → Checked Given_parts
+    of_info : Option ClassInfo → Checked GivenParts
     of_info None = Good nothing
     of_info (Some k) = given (λ c. classes_parts (c ∷ []) (p ∷ [])) (class_parts ar k c)
 
 -- a subroutine
-abbrev pub subroutine_made : Made_subroutine → Given_parts
+abbrev pub subroutine_made : MadeSubroutine → GivenParts
 subroutine_made m = record nothing { objects = m.routine.objects; subroutines = m ∷ [] }
 
 -- what stands outside units as in them
-abbrev pub common_parts : Around → Path → Item → Checked Given_parts
+abbrev pub common_parts : Around → Path → Item → Checked GivenParts
 common_parts ar p (tree_item.Class c) = class_made ar c (p ++ c.name.text ∷ [])
 common_parts ar p (tree_item.Routine r) = given subroutine_made (made_subroutine ar p no_qualifiers None r r.stmts nothing_before)
 common_parts ar p i = Good nothing
 
 -- an item of a unit
-abbrev pub item_parts : List Description → Around → Inst → Item → Checked Given_parts
+abbrev pub item_parts : List Description → Around → Inst → Item → Checked GivenParts
 item_parts us ar i (tree_item.Decl d) =
     given (λ os. record nothing { objects = os }) (flattened (each (variable_object ar i.group) d.names))
 item_parts us ar i (tree_item.Net n) =
@@ -294,7 +294,7 @@ abbrev pub label_stands : DesignElement → Checked (Unit {0})
 label_stands u = end_label (Some u.name) u.label
 
 -- the ports of an instance, and the rules on its scope
-abbrev pub enter_parts : Around → Inst → Checked Given_parts
+abbrev pub enter_parts : Around → Inst → Checked GivenParts
 enter_parts ar i =
     given (λ os. record nothing { objects = os })
     (flattened (each (λ p. given (port_object ar p) (known_as i.group p.name)) (ports_of i.unit.element)))
@@ -312,7 +312,7 @@ around_inst us files i = with_default (within_inst us files i)
     with_default ar = record ar { default_clocking = default_in i.group i.unit.element.items }
 
 -- what is met on the walk
-abbrev pub walked_parts : List Description → Around → Walked → Checked Given_parts
+abbrev pub walked_parts : List Description → Around → Walked → Checked GivenParts
 walked_parts us files (Enter i) =
     enter_parts (around_inst us files i) i where_also bases_stand i.entries (file_entries us) i.heads
 walked_parts us files (Meet i item) = item_parts us (around_inst us files i) i item
@@ -334,7 +334,7 @@ file_rule e = found e.what
     found _ = 1
 
 -- the files, and the items in them
-abbrev pub file_parts : List Description → Around → Group → List (Checked Given_parts)
+abbrev pub file_parts : List Description → Around → Group → List (Checked GivenParts)
 file_parts us files g =
     (Good nothing where_also known_stand g.scope.known where_also twice file_rule [] (file_entries us)
     where_also announcements_stand (file_entries us) where_also bases_stand (file_entries us) [] (file_heads us))

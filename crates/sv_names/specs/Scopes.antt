@@ -17,7 +17,7 @@ use Rattle.sv_names.specs.declared.typed.Typed.{Typed}
 use Rattle.sv_names.specs.declared.scope.Scope.{Scope}
 use Rattle.sv_names.specs.declared.named.Known.{Known}
 use Rattle.sv_names.specs.declared.named.Named.{Named}
-use Rattle.sv_names.specs.declared.named.Named.TheVariants.{Variable, Net, Input, Constant, Subroutine, ClockingBlock as Clocking_block}
+use Rattle.sv_names.specs.declared.named.Named.TheVariants.{Variable, Net, Input, Constant, Subroutine, ClockingBlock}
 use Rattle.sv_names.specs.declared.named.Callee.{Callee}
 use Rattle.sv_names.specs.declared.named.Formal.{Formal}
 use Rattle.sv_names.specs.declared.named.SignalInfo.{SignalInfo}
@@ -252,5 +252,5 @@ head_of false ar s q is_pure k r = callee_of ar s q is_pure k r
 abbrev pub value_of_any : (is_last : Bool) → Around → Path → Entry → Declared → Checked Named
 value_of_any l ar s e (A_subroutine q is_pure k r) = Good (Subroutine (head_of l ar s q is_pure k r))
 value_of_any l ar s e (A_clocking is) =
-    Good (Clocking_block (s ++ e.name.text ∷ []) (signals_in ar (s ++ e.name.text ∷ []) is))
+    Good (ClockingBlock (s ++ e.name.text ∷ []) (signals_in ar (s ++ e.name.text ∷ []) is))
 value_of_any l ar s e d = value_of_entry ar s e d

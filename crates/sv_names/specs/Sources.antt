@@ -17,7 +17,7 @@ use Rattle.sv_names.specs.declared.scope.Scope.{Scope}
 use Rattle.sv_names.specs.declared.ty.Ty.{Ty}
 use Rattle.sv_names.specs.declared.ty.Ty.TheVariants.{Nothing}
 use Rattle.sv_names.specs.declared.named.Named.{Named}
-use Rattle.sv_names.specs.declared.named.Named.TheVariants.{Property, StaticProperty as Static_property}
+use Rattle.sv_names.specs.declared.named.Named.TheVariants.{Property, StaticProperty}
 use Rattle.sv_names.specs.declared.named.Callee.{Callee}
 use Rattle.sv_names.specs.declared.named.SignalInfo.{SignalInfo}
 use Rattle.sv_names.specs.Checked.{given, fine, broken_at, ◌where_also◌}
@@ -58,7 +58,7 @@ subroutine_touches ar p q k r = (p ++ r.head.name.text ∷ [], scope_touches ar 
 -- the type that a property has
 abbrev pub type_of_property : Named → Ty
 type_of_property (Property k g n t) = t
-type_of_property (Static_property k g p t) = t
+type_of_property (StaticProperty k g p t) = t
 type_of_property n = Nothing
 
 -- the type of a property by its name

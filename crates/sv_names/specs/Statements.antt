@@ -23,7 +23,7 @@ use Rattle.sv_tree.specs.Stmt as tree_stmt
 use Rattle.sv_tree.specs.Stmt.{Decl, CaseItems, ForStep, Event}
 use Rattle.sv_names.specs.declared.typed.How.TheVariants.{Statement as By_statement}
 use Rattle.sv_names.specs.declared.around.Returns.{Returns}
-use Rattle.sv_names.specs.declared.around.Returns.TheVariants.{Outside, NoValue as No_value, SomeValue as Some_value}
+use Rattle.sv_names.specs.declared.around.Returns.TheVariants.{Outside, NoValue, SomeValue}
 use Rattle.sv_names.specs.declared.checked.Checked.{Checked}
 use Rattle.sv_names.specs.declared.checked.Checked.TheVariants.{Good, Broken}
 use Rattle.sv_names.specs.declared.ty.Ty.{Ty}
@@ -152,10 +152,10 @@ result_targets ar at p = of_named (result_from 0 p ar.scopes)
 abbrev pub return_of : Around → Place → Place → Option tree.Expr → Returns → Checked (Hoisted Form)
 return_of ar at word None Outside = broken_at 29 word
 return_of ar at word (Some e) Outside = broken_at 29 word where_also only (expr ar e)
-return_of ar at word None No_value = Good (pure (form.Return [] None))
-return_of ar at word (Some e) No_value = broken_at 30 word where_also only (expr ar e)
-return_of ar at word None (Some_value p t) = broken_at 30 word
-return_of ar at word (Some e) (Some_value p t) =
+return_of ar at word None NoValue = Good (pure (form.Return [] None))
+return_of ar at word (Some e) NoValue = broken_at 30 word where_also only (expr ar e)
+return_of ar at word None (SomeValue p t) = broken_at 30 word
+return_of ar at word (Some e) (SomeValue p t) =
     both t (expr ar e) ▷ (λ q. given (λ v. paired (λ ls x. form.Return ls (Some x)) (result_targets ar at p) v)
     (assigned ar q.0 (place_of e) q.1))
 

@@ -23,7 +23,7 @@ use Rattle.sv_tree.specs.Classes as tree_class
 use Rattle.sv_tree.specs.declared.class.Qualifiers.{Qualifiers}
 use Rattle.sv_names.specs.declared.around.ClassInfo.{ClassInfo}
 use Rattle.sv_names.specs.declared.around.Returns.{Returns}
-use Rattle.sv_names.specs.declared.around.Returns.TheVariants.{NoValue as No_value, SomeValue as Some_value}
+use Rattle.sv_names.specs.declared.around.Returns.TheVariants.{NoValue, SomeValue}
 use Rattle.sv_names.specs.declared.checked.Checked.{Checked}
 use Rattle.sv_names.specs.declared.checked.Checked.TheVariants.{Good}
 use Rattle.sv_names.specs.declared.ty.Ty.TheVariants.{Class}
@@ -54,7 +54,7 @@ use Rattle.sv_names.specs.Blocks.{end_label, decls_code, in_sequence}
 use Rattle.sv_names.specs.Statements.{stmts, place_from, result_variable}
 
 -- a subroutine of the flat design, with the routines that its statements add
-pub record Made_subroutine : Type 0 where
+pub record MadeSubroutine : Type 0 where
   pub path : Path
   pub routine : Numbered Routine
 
@@ -76,8 +76,8 @@ body_scope s c auto false = s
 
 -- what `return` is to give
 abbrev pub returns_of : Bool → Callee → Returns
-returns_of true c = Some_value c.path c.result
-returns_of false c = No_value
+returns_of true c = SomeValue c.path c.result
+returns_of false c = NoValue
 
 -- in the statements of a subroutine
 abbrev pub in_body : Around → Scope → Bool → Bool → Bool → Returns → Around
@@ -176,7 +176,7 @@ abbrev pub Before : Type 0
 Before = Around → Checked Code
 
 -- a subroutine over its scope
-abbrev pub subroutine_in : Around → Scope → Callee → Qualifiers → tree_unit.Routine → tree_stmt.Stmts → Before → Checked Made_subroutine
+abbrev pub subroutine_in : Around → Scope → Callee → Qualifiers → tree_unit.Routine → tree_stmt.Stmts → Before → Checked MadeSubroutine
 subroutine_in ar s c q r xs before =
     let auto : Bool = subroutine_is_automatic ar.is_automatic c.class r.head in
     let i : Around = in_body ar s auto (not c.is_static) c.is_task (returns_of (has_result r.head) c) in
@@ -198,7 +198,7 @@ abbrev pub label_of : tree_unit.Routine → Checked (Unit {0})
 label_of r = end_label (Some r.head.name) r.label
 
 -- a subroutine, and the rules on its declarations
-abbrev pub made_over : Around → Scope → Callee → Qualifiers → Option Path → tree_unit.Routine → tree_stmt.Stmts → Before → Checked Made_subroutine
+abbrev pub made_over : Around → Scope → Callee → Qualifiers → Option Path → tree_unit.Routine → tree_stmt.Stmts → Before → Checked MadeSubroutine
 made_over ar s c q k r xs before =
     subroutine_in ar (body_scope s c (subroutine_is_automatic ar.is_automatic k r.head) (has_result r.head)) c q r xs before
     where_also known_stand s.known
@@ -207,10 +207,10 @@ made_over ar s c q k r xs before =
     where_also label_of r
 
 -- a subroutine in its scope; `p` is the path of what declares it
-abbrev pub made_subroutine : Around → Path → Qualifiers → Option Path → tree_unit.Routine → tree_stmt.Stmts → Before → Checked Made_subroutine
+abbrev pub made_subroutine : Around → Path → Qualifiers → Option Path → tree_unit.Routine → tree_stmt.Stmts → Before → Checked MadeSubroutine
 made_subroutine ar p q k r xs before = with_scope (subroutine_scope ar p q k r)
   where
-    with_scope : Scope → Checked Made_subroutine
+    with_scope : Scope → Checked MadeSubroutine
     with_scope s = made_over ar s (callee_within ar s q false k r) q k r xs before
 
 -- nothing stands before the statements
@@ -347,14 +347,14 @@ this_scope p k at =
 -- names in them are looked up from the class, and not from the constructor
 abbrev pub for_properties : Around → ClassInfo → Place → Around
 for_properties ar k at =
-    in_body ar (this_scope (constructor_path k.path) k.path at) true true true No_value
+    in_body ar (this_scope (constructor_path k.path) k.path at) true true true NoValue
 
 -- what a constructor does before its own statements
 abbrev pub constructor_before : Around → ClassInfo → List tree_class.ClassItem → Place → Opening → Before
 constructor_before ar k is at o i = in_sequence (super_of k at o i) (initializers (for_properties ar k at) k is)
 
 -- a constructor that is not written
-abbrev pub implied_constructor : Around → ClassInfo → List tree_class.ClassItem → Checked Made_subroutine
+abbrev pub implied_constructor : Around → ClassInfo → List tree_class.ClassItem → Checked MadeSubroutine
 implied_constructor ar k is =
     let s : Scope = this_scope (constructor_path k.path) k.path k.name.at in
     given (λ c. record {
@@ -364,7 +364,7 @@ implied_constructor ar k is =
     (constructor_before ar k is k.name.at No_super (for_properties ar k k.name.at))
 
 -- a constructor that is written
-abbrev pub written_constructor : Around → ClassInfo → List tree_class.ClassItem → Qualifiers → tree_unit.Routine → Checked Made_subroutine
+abbrev pub written_constructor : Around → ClassInfo → List tree_class.ClassItem → Qualifiers → tree_unit.Routine → Checked MadeSubroutine
 written_constructor ar k is q r =
     made_subroutine ar k.path q (Some k.path) r (after_opening r.stmts)
     (constructor_before ar k is r.head.name.at (opening_of r.stmts))

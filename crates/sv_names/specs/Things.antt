@@ -12,7 +12,7 @@ use Rattle.sv_tree.specs.declared.expr.Root.TheVariants as root
 use Rattle.sv_names.specs.declared.typed.How.{How}
 use Rattle.sv_names.specs.declared.around.ClassInfo.{ClassInfo}
 use Rattle.sv_names.specs.declared.around.Dollar.{Dollar}
-use Rattle.sv_names.specs.declared.around.Dollar.TheVariants.{NoDollar as No_dollar, UnknownDollar as Unknown_dollar, LastIndex as Last_index}
+use Rattle.sv_names.specs.declared.around.Dollar.TheVariants.{NoDollar, UnknownDollar, LastIndex}
 use Rattle.sv_names.specs.declared.checked.Checked.{Checked}
 use Rattle.sv_names.specs.declared.checked.Checked.TheVariants.{Good, Broken}
 use Rattle.sv_names.specs.declared.ty.Ty.{Ty}
@@ -20,9 +20,9 @@ use Rattle.sv_names.specs.declared.ty.Ty.TheVariants.{Class}
 use Rattle.sv_names.specs.declared.typed.Typed.{Typed}
 use Rattle.sv_names.specs.declared.typed.Target.{Target}
 use Rattle.sv_names.specs.declared.typed.Begin.{Begin}
-use Rattle.sv_names.specs.declared.typed.Begin.TheVariants.{Variable as A_variable, Net as A_net, Input as An_input, Parameter as A_parameter, Item as An_item, InActivation as In_activation, StaticProperty as A_static_property, Result as A_result, Signal as A_signal, Object as The_object}
+use Rattle.sv_names.specs.declared.typed.Begin.TheVariants.{Variable as A_variable, Net as A_net, Input as An_input, Parameter as A_parameter, Item as An_item, InActivation, StaticProperty as A_static_property, Result as A_result, Signal as A_signal, Object as The_object}
 use Rattle.sv_names.specs.declared.named.Named.{Named}
-use Rattle.sv_names.specs.declared.named.Named.TheVariants.{Variable, Net, Input, Local, Property, StaticProperty as Static_property, Constant, TypeName as Type_name, ClassName as Class_name, Subroutine, Itself, ClockingBlock as Clocking_block, Other}
+use Rattle.sv_names.specs.declared.named.Named.TheVariants.{Variable, Net, Input, Local, Property, StaticProperty, Constant, TypeName, ClassName, Subroutine, Itself, ClockingBlock, Other}
 use Rattle.sv_names.specs.declared.named.Callee.{Callee}
 use Rattle.sv_names.specs.declared.named.SignalInfo.{SignalInfo}
 use Rattle.sv_names.specs.Checked.{◌▷◌, given, broken_at, rule, ◌where_also◌, unless, also_broken}
@@ -84,7 +84,7 @@ field_typed ar at k n t o =
       at = at;
       is_constant = false;
       code = mapped (flat.Field (property_place ar k n.text) (data_of ar.numbers t)) o.code;
-      target = begun In_activation t (base.Field o.code.value (property_place ar k n.text));
+      target = begun InActivation t (base.Field o.code.value (property_place ar k n.text));
     }
 
 -- a static member that is named through a reference
@@ -154,7 +154,7 @@ subroutine_thing ar at c o direct = in_class c.class
 -- a variable as a value and as a target
 abbrev pub variable_typed : Around → Place → Named → Option Typed
 variable_typed ar at (Variable p t) = Some (object_typed ar at p t (A_variable p))
-variable_typed ar at (Local u p t) = Some (local_typed ar at u p t In_activation)
+variable_typed ar at (Local u p t) = Some (local_typed ar at u p t InActivation)
 variable_typed ar at n = None
 
 -- the result of a static function
@@ -168,22 +168,22 @@ named_thing ar at (Variable p t) = Good (A_value (object_typed ar at p t (A_vari
 named_thing ar at (Net p t) = Good (A_value (object_typed ar at p t (A_net p)))
 named_thing ar at (Input p n t) = Good (A_value (object_typed ar at p t An_input))
 named_thing ar at (Local u p t) =
-    if ar.is_initial then broken_at 7 at else lasts ar at ▷ (λ _. Good (A_value (local_typed ar at u p t In_activation)))
+    if ar.is_initial then broken_at 7 at else lasts ar at ▷ (λ _. Good (A_value (local_typed ar at u p t InActivation)))
 named_thing ar at (Property k g n t) =
     may_be_named ar g k at
     ▷ (λ _. with_object at (at_hand ar at) (λ o. lasts ar at ▷ (λ _. Good (A_value (field_typed ar at k n t o)))))
-named_thing ar at (Static_property k g p t) =
+named_thing ar at (StaticProperty k g p t) =
     may_be_named ar g k at ▷ (λ _. lasts ar at ▷ (λ _. Good (A_value (object_typed ar at p t (A_static_property p)))))
 named_thing ar at (Constant t p) = Good (A_value (constant_named at p t))
-named_thing ar at (Type_name t) = Good (A_type t at)
-named_thing ar at (Class_name p) = Good (A_type (Class p) at)
+named_thing ar at (TypeName t) = Good (A_type t at)
+named_thing ar at (ClassName p) = Good (A_type (Class p) at)
 named_thing ar at (Subroutine c) = subroutine_thing ar at c (at_hand ar at) false
 named_thing ar at (Itself c n) = of_result (variable_typed ar at (result_named n))
   where
     of_result : Option Typed → Checked Thing
     of_result None = subroutine_thing ar at c (at_hand ar at) false
     of_result (Some v) = lasts ar at ▷ (λ _. Good (Its_result c (at_hand ar at) (as_result v v.target.begins) at))
-named_thing ar at (Clocking_block p ss) = Good (A_block p ss at)
+named_thing ar at (ClockingBlock p ss) = Good (A_block p ss at)
 named_thing ar at Other = broken_at 7 at
 
 -- ---- members of objects and classes
@@ -192,7 +192,7 @@ named_thing ar at Other = broken_at 7 at
 abbrev pub member_thing : Around → Place → Option Typed → Bool → Named → Checked Thing
 member_thing ar at o direct (Property k g n t) =
     may_be_named ar g k at ▷ (λ _. with_object at o (λ x. lasts ar at ▷ (λ _. Good (A_value (field_typed ar at k n t x)))))
-member_thing ar at o direct (Static_property k g p t) =
+member_thing ar at o direct (StaticProperty k g p t) =
     may_be_named ar g k at ▷ (λ _. lasts ar at ▷ (λ _.
     Good (A_value (through_reference (not_at_hand o) (object_typed ar at p t (A_static_property p))))))
 member_thing ar at o direct (Subroutine c) = subroutine_thing ar at c o direct
@@ -213,8 +213,8 @@ object_of ar at k = derived_class ar.class
 
 -- E7: the class before `::`
 abbrev pub class_named : Place → Named → Checked Path
-class_named at (Class_name p) = Good p
-class_named at (Type_name (Class p)) = Good p
+class_named at (ClassName p) = Good p
+class_named at (TypeName (Class p)) = Good p
 class_named at n = broken_at 7 at
 
 -- E38: the base of the class around
@@ -341,9 +341,9 @@ last_index q = flat.Binary bin.Sub (size_expr q) (flat.Literal (vector true (sym
 -- what `$` stands for in an index
 abbrev pub dollar_in : Checked Thing → Dollar
 dollar_in (Good (A_value t)) =
-    if is_queue t.ty then Last_index (last_index t.code.value) else No_dollar
-dollar_in (Good th) = No_dollar
-dollar_in (Broken f) = Unknown_dollar f
+    if is_queue t.ty then LastIndex (last_index t.code.value) else NoDollar
+dollar_in (Good th) = NoDollar
+dollar_in (Broken f) = UnknownDollar f
 
 -- ---- a thing as a target
 

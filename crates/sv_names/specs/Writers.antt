@@ -20,7 +20,7 @@ use Rattle.sv_names.specs.declared.ty.Ty.TheVariants.{Class, Nothing}
 use Rattle.sv_names.specs.declared.typed.Typed.{Typed}
 use Rattle.sv_names.specs.declared.scope.Scope.{Scope}
 use Rattle.sv_names.specs.declared.named.Named.{Named}
-use Rattle.sv_names.specs.declared.named.Named.TheVariants.{Variable, Local, Net, Input, Property, StaticProperty as Static_property, Itself}
+use Rattle.sv_names.specs.declared.named.Named.TheVariants.{Variable, Local, Net, Input, Property, StaticProperty, Itself}
 use Rattle.sv_names.specs.declared.named.Callee.{Callee}
 use Rattle.sv_names.specs.declared.named.Formal.{Formal}
 use Rattle.sv_names.specs.declared.typed.Begin.{Begin}
@@ -249,7 +249,7 @@ abbrev pub declares : Place → Checked Named → List Touch
 declares at (Good (Variable p t)) = Declares at 1 (elements_of t) ∷ []
 declares at (Good (Net p t)) = Declares at 1 0 ∷ []
 declares at (Good (Input p n t)) = Declares at 1 0 ∷ []
-declares at (Good (Static_property k g p t)) = Declares at 1 (elements_of t) ∷ []
+declares at (Good (StaticProperty k g p t)) = Declares at 1 (elements_of t) ∷ []
 declares at (Good (Property k g n t)) = Declares at 0 (elements_of t) ∷ []
 declares at (Good (Local u p t)) = Declares at 0 (elements_of t) ∷ []
 declares at (Good (Itself c n)) = declares_result (result_named n)
