@@ -1,0 +1,11 @@
+-- What elaboration makes of texts, computed from their trees.
+mod Kit
+mod Rules
+mod Worked
+mod Forms
+mod Edges
+mod Files
+mod Cycles
+mod Kinds
+mod Refused
+mod Varied
