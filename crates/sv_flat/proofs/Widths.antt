@@ -2,7 +2,7 @@
 use Rattle.std.proofs.Common.{ℕ, zero, suc, ◌≡◌, ◌+◌, ◌*◌, ◌<◌, ◌≤◌, refl, ap, subst, arith, inl, inr, ◌⊎◌}
 use Rattle.std.proofs.Math.Nat.{mul_comm, le-mul_of_pos_right}
 use Rattle.std.proofs.lemmas.Bool.{cases_lt}
-use Rattle.std.specs.Prelude.{max, min, ◌-◌, ◌^◌}
+use Rattle.std.specs.Prelude.{max, ◌^◌}
 use Rattle.sv_flat.specs.declared.context.Operands.{Operands}
 use Rattle.sv_flat.specs.declared.context.Operands.TheVariants as operands
 use Rattle.sv_flat.specs.Built.{IsWidth}

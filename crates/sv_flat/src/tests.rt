@@ -2,13 +2,13 @@
 ghost use Rattle.std.specs.Prelude.{IfOk, ◌≡◌};
 
 use crate::{
-    Choices, Design, Expr, ExprForm, Form, Instance, Parts, PrintKind, Process, ProcessKind,
-    Routine, Scale, Stmt, first_bits, is_built,
+    Choices, Context, Design, Expr, ExprForm, Form, Instance, Parts, PrintKind, Process,
+    ProcessKind, Routine, Scale, Stmt, first_bits, is_built,
 };
-use std::alloc::Global;
+use std::alloc::{AllocError, Global};
 use std::process::Abort;
 use std::test::Fail;
-use sv_value::{Bits, Integral, NoMemory, Piece, Place, RoutineId, Seq, Side, Text};
+use sv_value::{BinOp, Bits, Integral, NoMemory, Piece, Place, RoutineId, Seq, Side, Text};
 
 const HERE: Place = Place {
     file: 0,
@@ -147,6 +147,35 @@ fn takes_what_is_built(rt: HostRuntime) -> Result<(), Fail> {
     expect_built(&rt, alloc, Form::Exit, false)?;
     expect_refused(&rt, alloc, process(alloc, ProcessKind::Always, None))?;
     expect_refused(&rt, alloc, process(alloc, ProcessKind::Initial, Some(0)))?;
+    Ok(())
+}
+
+fn literal(alloc: Global, value: Bits) -> Result<Expr, AllocError> {
+    Expr::new(alloc, ExprForm::Literal { value, fill: None })
+}
+
+/// An operation between 8 signed bits and 16 unsigned ones has this width by itself; only a shift is signed, as its left operand is.
+fn expect_width<R: Abort>(rt: &R, alloc: Global, op: BinOp, width: u32) -> Result<(), AllocError> {
+    let form = ExprForm::Binary {
+        op,
+        left: literal(alloc, Bits::new(8, true, 0, 0))?,
+        right: literal(alloc, Bits::new(16, false, 0, 0))?,
+    };
+    let wanted = Context {
+        width,
+        signed: op == BinOp::ShiftLeft,
+    };
+    assert!(rt; Expr::new(alloc, form)?.own() == wanted);
+    Ok(())
+}
+
+#[test]
+fn operations_have_widths(rt: HostRuntime) -> Result<(), Fail> {
+    let alloc = rt.alloc();
+    expect_width(&rt, alloc, BinOp::Add, 16)?;
+    expect_width(&rt, alloc, BinOp::ShiftLeft, 8)?;
+    expect_width(&rt, alloc, BinOp::Less, 1)?;
+    expect_width(&rt, alloc, BinOp::LogicalAnd, 1)?;
     Ok(())
 }
 

@@ -1,5 +1,5 @@
 -- The statements of the files that run today that hold no statement, and what stands before one (IEEE 1800-2017, 9.4, 10.4 and 21.2).
-use Rattle.std.specs.Prelude.{ℕ, true, false, ◌==◌, List, [], ◌∷◌, Option, None, Some, length, codes, is_none, option_and_then, option_map, if◌then◌else◌}
+use Rattle.std.specs.Prelude.{ℕ, false, ◌==◌, List, [], ◌∷◌, Option, None, Some, length, codes, is_none, option_and_then, option_map, if◌then◌else◌}
 use Rattle.std.specs.Str.{bytes_eq}
 use Rattle.sv_value.specs.declared.place.Place.{Place}
 use Rattle.sv_value.specs.declared.operator.Piece.{Piece}

@@ -19,8 +19,6 @@ mod parts;
 mod posts;
 mod reader;
 mod target;
-#[cfg(test)]
-mod tests;
 mod values;
 mod whole;
 

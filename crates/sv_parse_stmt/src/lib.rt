@@ -21,8 +21,6 @@ mod front;
 mod heads;
 mod reader;
 mod simple;
-#[cfg(test)]
-mod tests;
 mod unnamed;
 mod whole;
 

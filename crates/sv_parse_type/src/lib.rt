@@ -11,8 +11,6 @@ mod declarations;
 mod declarators;
 mod dimensions;
 mod initial;
-#[cfg(test)]
-mod tests;
 mod types;
 
 pub use declarations::{begins_word_decl, named_decl_rest, typed, word_decl};

@@ -22,8 +22,6 @@ mod nets;
 mod params;
 mod ports;
 mod routines;
-#[cfg(test)]
-mod tests;
 mod typed;
 mod typedefs;
 mod whole;

@@ -1,4 +1,4 @@
-use Rattle.std.proofs.Common.{ℕ, ◌≡◌, ap, subst, sym, ◌∙◌}
+use Rattle.std.proofs.Common.{ℕ, ap, subst, sym, ◌∙◌}
 use Rattle.sv_flat.specs.Built.{IsWidth}
 use Rattle.sv_flat.specs.Eval.{width_of, is_signed}
 use Rattle.sv_flat.specs.declared.context.Context.{Context}

@@ -12,5 +12,5 @@ returns-in-Repeat c =
     let n = c.in-Repeat.count in
     c.replicated.ensures
     ∙ ap (λ (w : ℕ). record { width = w; signed = false })
-      (ap (λ (k : Context). kept_width (n * k.width)) c.own-in-Repeat.ensures ∙ repeat_kept n (width_of c.in-Repeat.part))
+    (ap (λ (k : Context). kept_width (n * k.width)) c.own-in-Repeat.ensures ∙ repeat_kept n (width_of c.in-Repeat.part))
     ∙ sym (ap (λ (f : ExprForm). own_context (of_form f)) c.in-Repeat.is)

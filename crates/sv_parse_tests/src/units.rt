@@ -1,61 +1,14 @@
-// What lists of tokens are read as.
+// Whole files, and the places of their faults.
 ghost use Rattle.std.specs.Prelude.{◌≡◌, ◌↔◌, IsTrue};
 ghost use Rattle.sv_tree.specs.Closed.{IsClosed};
 ghost use Rattle.sv_tree.specs.Codes.{toks};
 
-use crate::parse;
+use crate::tokens::of_words;
 use std::alloc::{AllocError, Global};
 use std::test::Fail;
 use sv_parse::{SyntaxFault, is_next};
-use sv_tree::{Description, Item, Kind, SIGNS, Token, WORDS};
-use sv_value::{Excerpt, NoMemory, Place};
-
-/// A token in line 1.
-fn token(alloc: Global, kind: Kind, col: u32) -> Result<Token, NoMemory> {
-    Ok(Token {
-        kind,
-        at: Place {
-            file: 0,
-            line: 1,
-            col,
-        },
-        text: Excerpt::new(alloc, b"")?,
-    })
-}
-
-/// The kind of a word: one of the tables, a number, a system name or a name.
-fn kind_of(word: &str) -> Kind {
-    for (spelling, kind) in &WORDS {
-        if *spelling == word {
-            return *kind;
-        }
-    }
-    for (spelling, kind) in &SIGNS {
-        if *spelling == word {
-            return *kind;
-        }
-    }
-    match word {
-        "1" => Kind::Number,
-        "1step" => Kind::OneStep,
-        "$f" => Kind::SystemName,
-        _ => Kind::Name,
-    }
-}
-
-/// The tokens of words between blanks, in the columns from 1 on, and behind them the end.
-fn tokens(alloc: Global, text: &str) -> Result<Vec<Token>, Fail> {
-    let mut list = Vec::new(alloc);
-    let mut col: u32 = 1;
-    for word in text.split(' ') {
-        if !word.is_empty() {
-            list.push(token(alloc, kind_of(word), col)?)?;
-            col = col.saturating_add(1);
-        }
-    }
-    list.push(token(alloc, Kind::EndOfText, col)?)?;
-    Ok(list)
-}
+use sv_parse_unit::parse;
+use sv_tree::{Description, Item, Kind, Token};
 
 /// Whether the last token, and no other, is the end.
 fn is_closed(tokens: &[Token]) -> bool
@@ -121,7 +74,7 @@ fn push_forms(text: &mut String, items: &[Item]) -> Result<(), AllocError> {
 /// What a text is read as, or the fault and its column.
 fn told(rt: &HostRuntime, text: &str) -> Result<String, Fail> {
     let alloc = rt.alloc();
-    let list = tokens(alloc, text)?;
+    let list = of_words(alloc, text)?;
     if !is_closed(&list) {
         return Ok(String::from_str(alloc, "not closed")?);
     }

@@ -1,31 +1,12 @@
 // Types, dimensions and declarations, once each.
-use crate::{Dimensions, word_decl, written_type};
+use crate::tokens::of_kinds;
 use std::alloc::Global;
 use std::process::Abort;
 use std::test::Fail;
 use sv_parse::{Budget, Part, ReadError, SyntaxFault, SyntaxKind, fault_of};
-use sv_tree::{Actuals, Dimension, Init, Kind, Token, WrittenType};
-use sv_value::{Excerpt, NoMemory, Place};
-
-/// A token of each kind, in the columns from 1 on.
-fn tokens(alloc: Global, kinds: &[Kind]) -> Result<Vec<Token>, NoMemory> {
-    let mut list = Vec::new(alloc);
-    let mut col = 1;
-    for kind in kinds {
-        let at = Place {
-            file: 0,
-            line: 1,
-            col,
-        };
-        list.push(Token {
-            kind: *kind,
-            at,
-            text: Excerpt::new(alloc, b"")?,
-        })?;
-        col = col.saturating_add(1);
-    }
-    Ok(list)
-}
+use sv_parse_type::{Dimensions, word_decl, written_type};
+use sv_tree::{Actuals, Dimension, Init, Kind, WrittenType};
+use sv_value::NoMemory;
 
 /// A word for what was read, with the number of tokens that are left; or for a fault, with its column.
 type Told = (&'static str, usize);
@@ -52,7 +33,7 @@ fn fault(error: ReadError) -> Told {
 
 /// What is told of a dimension of these kinds.
 fn dimension(alloc: Global, kinds: &[Kind]) -> Result<Told, NoMemory> {
-    let text = tokens(alloc, kinds)?;
+    let text = of_kinds(alloc, kinds)?;
     let (dimension, rest) = match Dimensions::read(alloc, &text, Budget::whole()) {
         Ok(read) => read,
         Err(error) => return Ok(fault(error)),
@@ -70,7 +51,7 @@ fn dimension(alloc: Global, kinds: &[Kind]) -> Result<Told, NoMemory> {
 
 /// What is told of a type of these kinds, where so much may stand in it.
 fn type_within(alloc: Global, kinds: &[Kind], budget: Budget) -> Result<Told, NoMemory> {
-    let text = tokens(alloc, kinds)?;
+    let text = of_kinds(alloc, kinds)?;
     let (of, rest) = match written_type(alloc, &text, budget) {
         Ok(read) => read,
         Err(error) => return Ok(fault(error)),
@@ -86,7 +67,7 @@ fn type_within(alloc: Global, kinds: &[Kind], budget: Budget) -> Result<Told, No
 
 /// What is told of the value of the first name of a declaration of these kinds.
 fn first_value(alloc: Global, kinds: &[Kind]) -> Result<Told, NoMemory> {
-    let text = tokens(alloc, kinds)?;
+    let text = of_kinds(alloc, kinds)?;
     let (decl, rest) = match word_decl(alloc, &text, Budget::whole()) {
         Ok(read) => read,
         Err(error) => return Ok(fault(error)),

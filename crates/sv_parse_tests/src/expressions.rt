@@ -1,51 +1,13 @@
-// What lists of tokens are read as.
-use crate::{Enclosed, call, cast_value, cast_word, expr, lval, maybe_actuals, targets, value};
+// Expressions, and the parts that other readers take of them.
+use crate::tokens::of_words;
 use std::alloc::{AllocGlobal, Global};
 use std::process::Abort;
 use std::test::Fail;
 use sv_parse::{Budget, Part, Read, SyntaxFault, SyntaxKind};
-use sv_tree::{BinaryWord, Expr, Kind, MOST_DEPTH, SIGNS, Token, WORDS};
-use sv_value::{Excerpt, NoMemory, Place};
-
-/// The kind of a word of the tables, or a name.
-fn kind_of(word: &str) -> Kind {
-    for (spelling, kind) in &WORDS {
-        if *spelling == word {
-            return *kind;
-        }
-    }
-    for (spelling, kind) in &SIGNS {
-        if *spelling == word {
-            return *kind;
-        }
-    }
-    Kind::Name
-}
-
-/// The tokens of words between blanks, in the columns from 1 on, and behind them the end.
-fn tokens(alloc: Global, text: &str) -> Result<Vec<Token>, Fail> {
-    let mut list = Vec::new(alloc);
-    let mut col: u32 = 1;
-    for word in text.split(' ') {
-        list.push(token(alloc, kind_of(word), col)?)?;
-        col = col.saturating_add(1);
-    }
-    list.push(token(alloc, Kind::EndOfText, col)?)?;
-    Ok(list)
-}
-
-/// A token in line 1.
-fn token(alloc: Global, kind: Kind, col: u32) -> Result<Token, NoMemory> {
-    Ok(Token {
-        kind,
-        at: Place {
-            file: 0,
-            line: 1,
-            col,
-        },
-        text: Excerpt::new(alloc, b"")?,
-    })
-}
+use sv_parse_expr::{
+    Enclosed, call, cast_value, cast_word, expr, lval, maybe_actuals, targets, value,
+};
+use sv_tree::{BinaryWord, Expr, MOST_DEPTH, Token};
 
 /// Where an expression ends, or the kind and the column of the fault.
 fn end_of(
@@ -72,7 +34,7 @@ fn ends<R: Abort + AllocGlobal>(
     depth: u32,
     wanted: Result<usize, (SyntaxKind, u32)>,
 ) -> Result<(), Fail> {
-    let list = tokens(rt.alloc(), text)?;
+    let list = of_words(rt.alloc(), text)?;
     assert_eq!(rt; end_of(rt.alloc(), &list, from, depth), wanted);
     Ok(())
 }
@@ -129,12 +91,12 @@ fn tree_of(read: Read<Expr>) -> Option<Expr> {
 
 #[test]
 fn operators_group(rt: HostRuntime) -> Result<(), Fail> {
-    let differences = tokens(rt.alloc(), "a - a - a")?;
+    let differences = of_words(rt.alloc(), "a - a - a")?;
     match tree_of(value(rt.alloc(), &differences, Budget::whole())) {
         Some(tree) => assert!(rt; groups_left(&tree)),
         None => assert!(rt; false),
     }
-    let choices = tokens(rt.alloc(), "a ? a : a ? a : a")?;
+    let choices = of_words(rt.alloc(), "a ? a : a ? a : a")?;
     match tree_of(value(rt.alloc(), &choices, Budget::whole())) {
         Some(tree) => assert!(rt; groups_right(&tree)),
         None => assert!(rt; false),
@@ -158,13 +120,13 @@ fn ends_there<R: Abort, T: Drop>(rt: &R, read: Read<T>) {
 #[test]
 fn each_part_is_read(rt: HostRuntime) -> Result<(), Fail> {
     let alloc = rt.alloc();
-    let post = tokens(alloc, "a . a [ a ] ( a , a ) ;")?;
+    let post = of_words(alloc, "a . a [ a ] ( a , a ) ;")?;
     ends_there(&rt, value(alloc, &post, Budget::whole()));
     ends_there(&rt, call(alloc, &post, Budget::whole()));
     ends_there(&rt, lval(alloc, &post, Budget::whole()));
-    let braces = tokens(alloc, "{ a , a } ;")?;
+    let braces = of_words(alloc, "{ a , a } ;")?;
     ends_there(&rt, targets(alloc, &braces, Budget::whole()));
-    let bracket = tokens(alloc, "( a ) ;")?;
+    let bracket = of_words(alloc, "( a ) ;")?;
     ends_there(&rt, maybe_actuals(alloc, &bracket, Budget::whole()));
     ends_there(&rt, Enclosed::read(alloc, &bracket, Budget::whole()));
     Ok(())
@@ -172,7 +134,7 @@ fn each_part_is_read(rt: HostRuntime) -> Result<(), Fail> {
 
 #[test]
 fn a_cast_goes_on_after_its_word(rt: HostRuntime) -> Result<(), Fail> {
-    let cast = tokens(rt.alloc(), "int ' ( a ) + a ;")?;
+    let cast = of_words(rt.alloc(), "int ' ( a ) + a ;")?;
     match cast_word(&cast) {
         Ok((to, rest)) => ends_there(&rt, cast_value(rt.alloc(), to, rest, Budget::whole())),
         Err(_) => assert!(rt; false),

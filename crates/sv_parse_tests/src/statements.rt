@@ -1,33 +1,11 @@
-// What lists of tokens are read as.
-use crate::stmt;
+// Statements of each family, and the places of their faults.
+use crate::tokens::of_kinds;
 use std::alloc::{AllocGlobal, Global};
 use std::process::Abort;
 use std::test::Fail;
 use sv_parse::{SyntaxFault, SyntaxKind};
-use sv_tree::{Body, JoinWord, Kind, Stmt, Token};
-use sv_value::{Excerpt, Place};
-
-/// Tokens of these kinds, and the end of the text, in the columns from 1 on.
-fn tokens(alloc: Global, kinds: &[Kind]) -> Result<Vec<Token>, Fail> {
-    let mut list = Vec::new(alloc);
-    let mut col = 0;
-    for kind in kinds {
-        if col < 1000 {
-            col += 1;
-        }
-        let at = Place {
-            file: 0,
-            line: 1,
-            col,
-        };
-        list.push(Token {
-            kind: *kind,
-            at,
-            text: Excerpt::new(alloc, b"")?,
-        })?;
-    }
-    Ok(list)
-}
+use sv_parse_stmt::stmt;
+use sv_tree::{Body, JoinWord, Kind, Stmt};
 
 /// The form of a statement.
 fn form(tree: &Stmt) -> &'static str {
@@ -62,7 +40,7 @@ fn inner_form(yes: &Stmt) -> &'static str {
 
 /// The form of a statement with the place where it ends, or the fault with its column.
 fn told(alloc: Global, kinds: &[Kind], depth: u32) -> Result<(&'static str, usize), Fail> {
-    let list = tokens(alloc, kinds)?;
+    let list = of_kinds(alloc, kinds)?;
     if depth > 199 {
         return Ok(("", 0));
     }
