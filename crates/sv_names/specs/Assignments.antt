@@ -171,10 +171,12 @@ abbrev pub old_container : Ty → Place → Typed → Checked (Hoisted Container
 old_container t at old = if same_type t old.ty then Good (mapped container_of old.code) else broken_at 16 at
 
 -- `new[n]` and `new[n](old)` (7.5.1): the target itself is changed
-abbrev pub resized : Around → Option Amount → Place → Hoisted flat.Expr → Option (Hoisted Container) → List Spot → Checked (Hoisted Form)
+abbrev pub resized :
+    Around → Option Amount → Place → Hoisted flat.Expr → Option (Hoisted Container) → List Spot → Checked (Hoisted Form)
 resized ar None at n old (s ∷ []) =
     if is_dynamic s.1.ty
-    then Good (three (λ q x y. form.Resize (container_of q) x y (plain_of ar.numbers (item_of s.1.ty))) s.1.code n (if_any old))
+    then Good (three (λ q x y. form.Resize (container_of q) x y (plain_of ar.numbers (item_of s.1.ty)))
+    s.1.code n (if_any old))
     else given (λ e. mapped (λ x. form.Null) e) (no_object at (s ∷ []))
 resized ar (Some d) at n old (s ∷ []) =
     if is_dynamic s.1.ty then broken_at 42 s.1.at else given (λ e. mapped (λ x. form.Null) e) (no_object at (s ∷ []))

@@ -123,7 +123,8 @@ left_out ar at f = found f.default
     found (Some e) = input_argument ar at f.ty e
 
 -- an argument, and those behind it
-abbrev pub and_further : Checked (Hoisted Argument) → (ℕ → Checked (List (Hoisted Argument))) → Checked (List (Hoisted Argument))
+abbrev pub and_further :
+    Checked (Hoisted Argument) → (ℕ → Checked (List (Hoisted Argument))) → Checked (List (Hoisted Argument))
 and_further (Good a) go = given (λ as'. a ∷ as') (go (length a.hidden))
 and_further (Broken f) go = also_broken f (only (go 0))
 
@@ -216,7 +217,8 @@ in_scope p t s = if same_path p s.path then items_known t s.known else []
 -- the items of an enum, with their values
 abbrev pub enum_items : Around → Ty → List NamedItem
 enum_items ar (Enum p at i b w) =
-    first_of (flat_map (in_scope p (Enum p at i b w)) ar.scopes) (flat_map (λ k. in_scope p (Enum p at i b w) k.scope) ar.classes)
+    first_of (flat_map (in_scope p (Enum p at i b w)) ar.scopes)
+    (flat_map (λ k. in_scope p (Enum p at i b w) k.scope) ar.classes)
   where
     first_of : List NamedItem → List NamedItem → List NamedItem
     first_of [] bs = bs

@@ -21,7 +21,7 @@ use Rattle.sv_names.specs.declared.named.Formal.{Formal}
 use Rattle.sv_names.specs.Checked.{both, ◌▷◌, given, rule, fine, ◌where_also◌, each, all}
 use Rattle.sv_names.specs.Types.{Path, same_type, same_flag, same_bytes, size_of_type, data_of}
 use Rattle.sv_names.specs.Named.{Around, line_of, method_in, in_known}
-use Rattle.sv_names.specs.Entries.{Entry, Declared as Declaration, A_class, An_announcement, twice, class_entries, is_constructor, pure_routine}
+use Rattle.sv_names.specs.Entries.{Entry, Declared as Declaration, A_class, An_announcement, twice, class_entries, is_constructor, pure_method}
 use Rattle.sv_names.specs.Scopes.{known_stand}
 use Rattle.sv_names.specs.Groups.{Head, base_stands, not_cyclic, in_class}
 use Rattle.sv_names.specs.Code.{object_at, home_of}
@@ -41,8 +41,8 @@ pub record ClassParts : Type 0 where
 abbrev pub method_of : Around → ClassInfo → tree_class.ClassItem → Checked (List MadeSubroutine)
 method_of ar k (tree_class.Method m) =
     if is_constructor m.routine.head then Good []
-    else given (λ x. x ∷ []) (made_subroutine ar k.path m.qualifiers (Some k.path) m.routine m.routine.stmts nothing_before)
-method_of ar k (tree_class.Pure m) = pure_stands ar k.path (Some k.path) (pure_routine m.head) ▷ (λ u. Good [])
+    else given (λ x. x ∷ []) (made_subroutine ar k.path (Some k.path) m m.routine.stmts nothing_before)
+method_of ar k (tree_class.Pure m) = pure_stands ar k.path (Some k.path) (pure_method m.head) ▷ (λ u. Good [])
 method_of ar k i = Good []
 
 -- lists one after another
@@ -53,7 +53,7 @@ joined c = given (flat_map (λ x. x)) c
 abbrev pub constructor_of : Around → ClassInfo → (whole rest : List tree_class.ClassItem) → Checked MadeSubroutine
 constructor_of ar k whole [] = implied_constructor ar k whole
 constructor_of ar k whole (tree_class.Method m ∷ is) =
-    if is_constructor m.routine.head then written_constructor ar k whole m.qualifiers m.routine
+    if is_constructor m.routine.head then written_constructor ar k whole m
     else constructor_of ar k whole is
 constructor_of ar k whole (i ∷ is) = constructor_of ar k whole is
 

@@ -15,7 +15,7 @@ use Rattle.sv_tree.specs.Stmt.{Decl, Declarator, Dimension}
 use Rattle.sv_tree.specs.Units as tree_unit
 use Rattle.sv_tree.specs.Classes as tree_class
 use Rattle.sv_tree.specs.declared.class.Qualifiers.{Qualifiers}
-use Rattle.sv_tree.specs.Units.{Head, Argument}
+use Rattle.sv_tree.specs.Units.{Head, Argument, Method}
 use Rattle.sv_names.specs.declared.checked.Checked.{Checked}
 use Rattle.sv_names.specs.declared.ty.Ty.{Ty}
 use Rattle.sv_names.specs.declared.typed.Typed.{Typed}
@@ -50,7 +50,7 @@ pub data Declared : Type 0 where
   A_class : Path → Declared
   -- `typedef class`
   An_announcement : Declared
-  A_subroutine : Qualifiers → (is_pure : Bool) → (class : Option Path) → tree_unit.Routine → Declared
+  A_subroutine : (is_pure : Bool) → (class : Option Path) → Method → Declared
   A_clocking : List tree_unit.ClockingItem → Declared
   -- the object of a method
   The_object_of : Path → Declared
@@ -64,7 +64,7 @@ kind_of (An_item w v n) = Of_constant
 kind_of (A_type w) = Of_type
 kind_of (A_class p) = Of_type
 kind_of An_announcement = Of_type
-kind_of (A_subroutine q pure class r) = Of_subroutine
+kind_of (A_subroutine pure class m) = Of_subroutine
 kind_of (A_clocking is) = Of_another
 kind_of Another = Of_another
 kind_of d = Of_object
@@ -108,7 +108,8 @@ clashes x s (e ∷ es) = (same_bytes x e.0 && not (agree e.1 s)) || clashes x s 
 abbrev pub twice : (Entry → ℕ) → List (List ℕ × Sort) → List Entry → Checked (Unit {0})
 twice n seen [] = fine
 twice n seen (e ∷ es) =
-    rule (n e) e.name.at (clashes e.name.text (sort_of e.what) seen) where_also twice n ((e.name.text, sort_of e.what) ∷ seen) es
+    rule (n e) e.name.at (clashes e.name.text (sort_of e.what) seen)
+    where_also twice n ((e.name.text, sort_of e.what) ∷ seen) es
 
 -- ---- the items of the enums in a type
 
@@ -143,7 +144,8 @@ items_in_dimension d = []
 -- the names of one declaration
 abbrev pub declarator_entries : (WrittenType → Option Dimension → Declared) → WrittenType → List Declarator → List Entry
 declarator_entries f w [] = []
-declarator_entries f w (x ∷ xs) = items_in_dimension x.dimension ++ entry x.name (f w x.dimension) ∷ declarator_entries f w xs
+declarator_entries f w (x ∷ xs) =
+    items_in_dimension x.dimension ++ entry x.name (f w x.dimension) ∷ declarator_entries f w xs
 
 -- whether a variable or subroutine is automatic
 abbrev pub is_automatic_life : Bool → Life → Bool
@@ -257,9 +259,25 @@ is_text_of n x = same_bytes n.text x
 abbrev pub is_constructor : Head → Bool
 is_constructor h = is_text_of h.name (codes "new")
 
+-- no word stands before an item
+abbrev pub no_qualifiers : Qualifiers
+no_qualifiers = record { is_local = false; is_protected = false; is_static = false; is_virtual = false }
+
+-- a subroutine of a unit or a file, as a method without such words
+abbrev pub plain_routine : tree_unit.Routine → Method
+plain_routine r = record { qualifiers = no_qualifiers; routine = r }
+
+-- a pure method is virtual, and has a head alone
+abbrev pub pure_method : Head → Method
+pure_method h =
+    record {
+      qualifiers = record no_qualifiers { is_virtual = true };
+      routine = record { head = h; decls = []; stmts = tree_stmt.NoStmt; label = None };
+    }
+
 -- whether a method belongs to the class alone
-abbrev pub is_static_method : Qualifiers → Head → Bool
-is_static_method q h = q.is_static && not (is_constructor h)
+abbrev pub is_static_method : Method → Bool
+is_static_method m = m.qualifiers.is_static && not (is_constructor m.routine.head)
 
 -- the object of a method that is not static
 abbrev pub object_entry : Bool → Head → Option Path → List Entry
@@ -296,11 +314,11 @@ subroutine_is_automatic usual None h = is_automatic_life usual h.life
 subroutine_is_automatic usual (Some k) h = true
 
 -- what the scope of a subroutine declares: the object, the arguments, the variables, the blocks
-abbrev pub subroutine_entries : (usual : Bool) → Qualifiers → Option Path → tree_unit.Routine → List Entry
-subroutine_entries usual q k r =
-    let auto : Bool = subroutine_is_automatic usual k r.head in
-    object_entry (is_static_method q r.head) r.head k ++ items_in_implied (result_type r.head) ++ argument_entries auto (taken r.head)
-    ++ flat_map (decl_entries auto) r.decls ++ blocks_of r.stmts
+abbrev pub subroutine_entries : (usual : Bool) → Option Path → Method → List Entry
+subroutine_entries usual k m =
+    let auto : Bool = subroutine_is_automatic usual k m.routine.head in
+    object_entry (is_static_method m) m.routine.head k ++ items_in_implied (result_type m.routine.head)
+    ++ argument_entries auto (taken m.routine.head) ++ flat_map (decl_entries auto) m.routine.decls ++ blocks_of m.routine.stmts
 
 -- ---- classes
 
@@ -312,21 +330,12 @@ protection_of q = if q.is_local then Local_to_class else (if q.is_protected then
 abbrev pub property_kind : Path → Qualifiers → WrittenType → Option Dimension → Declared
 property_kind k q w d = if q.is_static then A_static_property k (protection_of q) w d else A_property k (protection_of q) w d
 
--- a pure method is virtual
-abbrev pub pure_qualifiers : Qualifiers
-pure_qualifiers = record { is_local = false; is_protected = false; is_static = false; is_virtual = true }
-
--- a head without statements
-abbrev pub pure_routine : Head → tree_unit.Routine
-pure_routine h = record { head = h; decls = []; stmts = tree_stmt.NoStmt; label = None }
-
 -- what an item of a class declares
 abbrev pub class_item_entries : Path → tree_class.ClassItem → List Entry
 class_item_entries k (tree_class.Property p) =
     items_in p.decl.of ++ declarator_entries (property_kind k p.qualifiers) p.decl.of p.decl.names
-class_item_entries k (tree_class.Method m) = entry m.routine.head.name (A_subroutine m.qualifiers false (Some k) m.routine) ∷ []
-class_item_entries k (tree_class.Pure m) =
-    entry m.head.name (A_subroutine pure_qualifiers true (Some k) (pure_routine m.head)) ∷ []
+class_item_entries k (tree_class.Method m) = entry m.routine.head.name (A_subroutine false (Some k) m) ∷ []
+class_item_entries k (tree_class.Pure m) = entry m.head.name (A_subroutine true (Some k) (pure_method m.head)) ∷ []
 class_item_entries k (tree_class.Typedef t) = items_in t.of ++ entry t.name (A_type t.of) ∷ []
 class_item_entries k (tree_class.Announce n) = entry n An_announcement ∷ []
 class_item_entries k tree_class.Null = []

@@ -1,5 +1,5 @@
 -- Expressions and targets over what their names stand for (IEEE 1800-2017, 11): the table of all forms.
-use Rattle.std.specs.Prelude.{ℕ, Bool, true, false, not, ◌||◌, List, [], ◌∷◌, ◌++◌, Option, Some, None, if◌then◌else◌, codes, length, ◌+◌}
+use Rattle.std.specs.Prelude.{ℕ, Bool, true, false, not, ◌||◌, List, [], ◌∷◌, ◌++◌, Option, Some, None, if◌then◌else◌, codes, length}
 use Rattle.sv_value.specs.declared.place.Place.{Place}
 use Rattle.sv_value.specs.Vector.{vector, symbols_of}
 use Rattle.sv_flat.specs.Expr as flat
@@ -330,7 +330,8 @@ abbrev mutual
   -- an expression as a target; None where it can be none
   pub target_in : How → Around → tree.Expr → Option (Checked (List Spot))
   target_in h ar (tree.Post r s) =
-      Some (or_before h (place_of_root r) (things ar (place_of_root r) (root_thing ar r) s ▷ thing_target ar h (place_of_root r))
+      Some (or_before h (place_of_root r)
+      (things ar (place_of_root r) (root_thing ar r) s ▷ thing_target ar h (place_of_root r))
       (λ _. before_select ar (place_of_root r) (root_thing ar r) s))
   target_in h ar (tree.Join at es) = as_concatenation at (targets_in h ar es)
   target_in h ar e = None

@@ -201,4 +201,5 @@ with_around ar g = (g, in_group g ar)
 abbrev pub settled_group : Around → Path → List Entry → List Head → Group
 settled_group ar p es hs =
     group_of ar p hs
-    (settled (λ rs. with_around ar (group_of ar p hs rs)) (evaluated false p) (evaluated true p) (rows_of 0 es ++ class_rows 1 hs))
+    (settled (λ rs. with_around ar (group_of ar p hs rs)) (evaluated false p) (evaluated true p)
+    (rows_of 0 es ++ class_rows 1 hs))

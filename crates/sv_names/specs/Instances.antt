@@ -12,7 +12,6 @@ use Rattle.sv_tree.specs.Expr as tree
 use Rattle.sv_tree.specs.Expr.{place_of}
 use Rattle.sv_tree.specs.Types as tree_type
 use Rattle.sv_tree.specs.Types.{ImpliedType}
-use Rattle.sv_tree.specs.declared.class.Qualifiers.{Qualifiers}
 use Rattle.sv_tree.specs.Units as tree_unit
 use Rattle.sv_tree.specs.Units.{Connection, Param}
 use Rattle.sv_tree.specs.Items as tree_item
@@ -25,7 +24,7 @@ use Rattle.sv_names.specs.Checked.{broken_at, fine}
 use Rattle.sv_names.specs.Types.{Path, Numbers, same_bytes, among}
 use Rattle.sv_names.specs.Named.{Around}
 use Rattle.sv_names.specs.Expressions.{expr}
-use Rattle.sv_names.specs.Entries.{Entry, entry, Source, Own, Given, A_variable, A_net, A_port, A_parameter, A_type, A_class, An_announcement, A_subroutine, A_clocking, Another, items_in, items_in_implied, declarator_entries, blocks, is_automatic_life}
+use Rattle.sv_names.specs.Entries.{Entry, entry, Source, Own, Given, A_variable, A_net, A_port, A_parameter, A_type, A_class, An_announcement, A_subroutine, A_clocking, Another, plain_routine, items_in, items_in_implied, declarator_entries, blocks, is_automatic_life}
 use Rattle.sv_names.specs.Groups.{Group, Head, heads_of, settled_group, in_group}
 
 -- ---- ports
@@ -86,10 +85,6 @@ param_entries gs p =
     items_in_implied p.of
     ++ map (λ x. entry x.name (A_parameter p.of (param_source p.word x.value x.name.text gs))) p.names
 
--- no qualifier is written
-abbrev pub no_qualifiers : Qualifiers
-no_qualifiers = record { is_local = false; is_protected = false; is_static = false; is_virtual = false }
-
 -- what an item declares
 abbrev pub item_entries : Path → Givens → Item → List Entry
 item_entries p gs (tree_item.Decl d) = items_in d.of ++ declarator_entries A_variable d.of d.names
@@ -98,7 +93,7 @@ item_entries p gs (tree_item.Typedef t) = items_in t.of ++ entry t.name (A_type 
 item_entries p gs (tree_item.Announce n) = entry n An_announcement ∷ []
 item_entries p gs (tree_item.Class c) = entry c.name (A_class (p ++ c.name.text ∷ [])) ∷ []
 item_entries p gs (tree_item.Param q) = param_entries gs q
-item_entries p gs (tree_item.Routine r) = entry r.head.name (A_subroutine no_qualifiers false None r) ∷ []
+item_entries p gs (tree_item.Routine r) = entry r.head.name (A_subroutine false None (plain_routine r)) ∷ []
 item_entries p gs (tree_item.Instances x) = map (λ i. entry i.name Another) x.list
 item_entries p gs (tree_item.Procedure q) = blocks q.body
 item_entries p gs (tree_item.Clocking b) = entry b.name (A_clocking b.items) ∷ []

@@ -33,7 +33,7 @@ use Rattle.sv_names.specs.declared.named.Named.TheVariants.{Variable, Net, Input
 use Rattle.sv_names.specs.Checked.{both, ◌▷◌, given, broken_at, rule, fine, ◌where_also◌, each, all}
 use Rattle.sv_names.specs.Types.{Path, among}
 use Rattle.sv_names.specs.Named.{Around, class_in, in_known, meaning}
-use Rattle.sv_names.specs.Entries.{Entry, Declared, An_item, twice}
+use Rattle.sv_names.specs.Entries.{Entry, Declared, An_item, plain_routine, twice}
 use Rattle.sv_names.specs.Scopes.{known_stand}
 use Rattle.sv_names.specs.Groups.{Group}
 use Rattle.sv_names.specs.Code.{Code, changed, as_routine, object_at}
@@ -43,7 +43,7 @@ use Rattle.sv_names.specs.Statements.{stmt, at_event, place_from}
 use Rattle.sv_names.specs.Subroutines.{MadeSubroutine, made_subroutine, nothing_before}
 use Rattle.sv_names.specs.Classes.{ClassParts, class_parts, bases_stand, announcements_stand, joined}
 use Rattle.sv_names.specs.Clockings.{MadeClocking, clocking_of}
-use Rattle.sv_names.specs.Instances.{Definition, Inst, Walked, Enter, Meet, Connect, Pass, PortInfo, ports_of, port_names, definition_named, param_names, file_entries, file_heads, outside, no_qualifiers, within_inst}
+use Rattle.sv_names.specs.Instances.{Definition, Inst, Walked, Enter, Meet, Connect, Pass, PortInfo, ports_of, port_names, definition_named, param_names, file_entries, file_heads, outside, within_inst}
 use Rattle.sv_names.specs.Connections.{Made, assign_made, net_made, port_link, connections_fit, connections_stand}
 
 -- ---- what an item gives
@@ -268,7 +268,8 @@ subroutine_made m = record nothing { objects = m.routine.objects; subroutines = 
 -- what stands outside units as in them
 abbrev pub common_parts : Around → Path → Item → Checked GivenParts
 common_parts ar p (tree_item.Class c) = class_made ar c (p ++ c.name.text ∷ [])
-common_parts ar p (tree_item.Routine r) = given subroutine_made (made_subroutine ar p no_qualifiers None r r.stmts nothing_before)
+common_parts ar p (tree_item.Routine r) =
+    given subroutine_made (made_subroutine ar p None (plain_routine r) r.stmts nothing_before)
 common_parts ar p i = Good nothing
 
 -- an item of a unit

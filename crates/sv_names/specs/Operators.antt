@@ -265,8 +265,8 @@ join_all p (q ∷ qs) = joined p.1 (q ∷ qs)
 -- a replication
 abbrev pub repeated : ℕ → Typed → Typed
 repeated n a =
-    value_typed (if is_text a.ty then Text else plain_vector (n * width_of_type a.ty) false (is_four_state a.ty)) a.at a.is_constant
-    (mapped (flat.Repeat n) a.code)
+    value_typed (if is_text a.ty then Text else plain_vector (n * width_of_type a.ty) false (is_four_state a.ty))
+    a.at a.is_constant (mapped (flat.Repeat n) a.code)
 
 -- how many bits the parts of a concatenation have
 abbrev pub widths_of : List Placed → ℕ

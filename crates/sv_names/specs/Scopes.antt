@@ -6,8 +6,7 @@ use Rattle.sv_tree.specs.declared.word.Direction.TheVariants as direction
 use Rattle.sv_tree.specs.Expr as tree
 use Rattle.sv_tree.specs.Expr.{place_of}
 use Rattle.sv_tree.specs.Units as tree_unit
-use Rattle.sv_tree.specs.declared.class.Qualifiers.{Qualifiers}
-use Rattle.sv_tree.specs.Units.{Head, Sided}
+use Rattle.sv_tree.specs.Units.{Head, Method, Sided}
 use Rattle.sv_names.specs.declared.around.ClassInfo.{ClassInfo}
 use Rattle.sv_names.specs.declared.checked.Checked.{Checked}
 use Rattle.sv_names.specs.declared.checked.Checked.TheVariants.{Good, Broken}
@@ -150,34 +149,38 @@ has_slot ar (Some k) x = in_class (class_in ar.classes k)
     in_class (Some c) = among x c.slots
 
 -- the head of a subroutine over its scope
-abbrev pub callee_within : Around → Scope → Qualifiers → Bool → Option Path → tree_unit.Routine → Callee
-callee_within ar s q is_pure k r =
+abbrev pub callee_within : Around → Scope → (is_pure : Bool) → Option Path → Method → Callee
+callee_within ar s is_pure k m =
     record {
-      name = r.head.name;
+      name = m.routine.head.name;
       path = s.path;
-      is_task = is_task r.head;
-      result = result_of_head (within s ar) s.path r.head;
-      formals = map (formal_of ar (within s ar) s.path) (taken r.head);
+      is_task = is_task m.routine.head;
+      result = result_of_head (within s ar) s.path m.routine.head;
+      formals = map (formal_of ar (within s ar) s.path) (taken m.routine.head);
       class = k;
-      is_static = is_static_method q r.head;
-      is_virtual = has_slot ar k r.head.name.text;
+      is_static = is_static_method m;
+      is_virtual = has_slot ar k m.routine.head.name.text;
       is_pure = is_pure;
-      protection = protection_of q;
+      protection = protection_of m.qualifiers;
     }
 
 -- what the scope of a subroutine declares
-abbrev pub all_entries : Around → Qualifiers → Option Path → tree_unit.Routine → List Entry
-all_entries ar q k r = subroutine_entries ar.is_automatic q k r
+abbrev pub all_entries : Around → Option Path → Method → List Entry
+all_entries ar k m = subroutine_entries ar.is_automatic k m
 
 -- whether a call makes an activation
-abbrev pub subroutine_enters : Around → Qualifiers → Option Path → tree_unit.Routine → Bool
-subroutine_enters ar q k r = subroutine_is_automatic ar.is_automatic k r.head || makes_activation (all_entries ar q k r)
+abbrev pub subroutine_enters : Around → Option Path → Method → Bool
+subroutine_enters ar k m =
+    subroutine_is_automatic ar.is_automatic k m.routine.head || makes_activation (all_entries ar k m)
+
+-- the path of a subroutine in a scope
+abbrev pub subroutine_path : Path → Method → Path
+subroutine_path s m = s ++ m.routine.head.name.text ∷ []
 
 -- the head of a subroutine, where what is around it may still wait
-abbrev pub callee_of : Around → Path → Qualifiers → Bool → Option Path → tree_unit.Routine → Callee
-callee_of ar s q is_pure k r =
-    callee_within ar (first_scope ar (s ++ r.head.name.text ∷ []) k (subroutine_enters ar q k r) (all_entries ar q k r))
-    q is_pure k r
+abbrev pub callee_of : Around → Path → (is_pure : Bool) → Option Path → Method → Callee
+callee_of ar s is_pure k m =
+    callee_within ar (first_scope ar (subroutine_path s m) k (subroutine_enters ar k m) (all_entries ar k m)) is_pure k m
 
 -- ---- the signals of clocking blocks
 
@@ -205,7 +208,14 @@ is_directly_in p q = false
 -- a signal that stands
 abbrev pub signal_info : Name → Path → Ty → Path → List Sided → SignalInfo
 signal_info n p t s ds =
-    record { name = n; object = p; ty = t; sample = s; is_input = any_side is_input_side ds; is_output = any_side is_output_side ds }
+    record {
+      name = n;
+      object = p;
+      ty = t;
+      sample = s;
+      is_input = any_side is_input_side ds;
+      is_output = any_side is_output_side ds;
+    }
 
 -- E46, E19: an integral object of the unit; no input port is driven
 abbrev pub signal_of_object : Path → Path → Name → List Sided → (is_input_port : Bool) → Path → Ty → Checked SignalInfo
@@ -237,20 +247,22 @@ signals_in ar s is = flat_map (item_signals ar s) is
 
 -- ---- all declarations
 
+-- the settled scope of a subroutine; `s` is the path of what declares it
+abbrev pub subroutine_scope : Around → Path → Option Path → Method → Scope
+subroutine_scope ar s k m = settled_scope ar (subroutine_path s m) k (subroutine_enters ar k m) (all_entries ar k m)
+
 -- the head of a subroutine, also where its own declarations need themselves
-abbrev pub last_callee : Around → Path → Qualifiers → Bool → Option Path → tree_unit.Routine → Callee
-last_callee ar s q is_pure k r =
-    callee_within ar (settled_scope ar (s ++ r.head.name.text ∷ []) k (subroutine_enters ar q k r) (all_entries ar q k r))
-    q is_pure k r
+abbrev pub last_callee : Around → Path → (is_pure : Bool) → Option Path → Method → Callee
+last_callee ar s is_pure k m = callee_within ar (subroutine_scope ar s k m) is_pure k m
 
 -- the head, in a round or after all
-abbrev pub head_of : (is_last : Bool) → Around → Path → Qualifiers → Bool → Option Path → tree_unit.Routine → Callee
-head_of true ar s q is_pure k r = last_callee ar s q is_pure k r
-head_of false ar s q is_pure k r = callee_of ar s q is_pure k r
+abbrev pub head_of : (is_last : Bool) → Around → Path → (is_pure : Bool) → Option Path → Method → Callee
+head_of true ar s is_pure k m = last_callee ar s is_pure k m
+head_of false ar s is_pure k m = callee_of ar s is_pure k m
 
 -- what a declaration stands for
 abbrev pub value_of_any : (is_last : Bool) → Around → Path → Entry → Declared → Checked Named
-value_of_any l ar s e (A_subroutine q is_pure k r) = Good (Subroutine (head_of l ar s q is_pure k r))
+value_of_any l ar s e (A_subroutine is_pure k m) = Good (Subroutine (head_of l ar s is_pure k m))
 value_of_any l ar s e (A_clocking is) =
     Good (ClockingBlock (s ++ e.name.text ∷ []) (signals_in ar (s ++ e.name.text ∷ []) is))
 value_of_any l ar s e d = value_of_entry ar s e d

@@ -78,7 +78,8 @@ bit_of at pi a i = given (λ p. selected 1 (pos 0) pi p.0.0 p.0.1 p.1) (both (wi
 
 -- a bound as an index
 abbrev pub number_typed : Place → ℤ → Typed
-number_typed at i = value_typed (plain_vector 64 true false) at true (pure (flat.Literal (vector true (integer_symbols 64 i)) None))
+number_typed at i =
+    value_typed (plain_vector 64 true false) at true (pure (flat.Literal (vector true (integer_symbols 64 i)) None))
 
 -- `[l:r]` runs as its vector does
 abbrev pub fixed_part : Place → Place → Place → Bounds → Typed → ℤ → ℤ → Checked Typed

@@ -8,7 +8,7 @@ use Rattle.sv_tree.specs.Units as tree_unit
 use Rattle.sv_tree.specs.Classes as tree_class
 use Rattle.sv_tree.specs.Items as tree_item
 use Rattle.sv_tree.specs.Items.{Item}
-use Rattle.sv_tree.specs.declared.class.Qualifiers.{Qualifiers}
+use Rattle.sv_tree.specs.Units.{Method}
 use Rattle.sv_names.specs.declared.typed.How.TheVariants.{Continuous}
 use Rattle.sv_names.specs.declared.around.ClassInfo.{ClassInfo}
 use Rattle.sv_names.specs.declared.checked.Checked.{Checked}
@@ -24,34 +24,35 @@ use Rattle.sv_names.specs.Checked.{given, fine, broken_at, ◌where_also◌}
 use Rattle.sv_names.specs.Types.{Path}
 use Rattle.sv_names.specs.Named.{Around, class_in, in_known}
 use Rattle.sv_names.specs.Expressions.{as_expr}
-use Rattle.sv_names.specs.Entries.{has_result, is_static_method, is_constructor, subroutine_is_automatic}
-use Rattle.sv_names.specs.Scopes.{callee_within, signals_in}
+use Rattle.sv_names.specs.Entries.{has_result, is_static_method, is_constructor, plain_routine, subroutine_is_automatic}
+use Rattle.sv_names.specs.Scopes.{callee_within, subroutine_path, subroutine_scope, signals_in}
 use Rattle.sv_names.specs.Groups.{in_class}
 use Rattle.sv_names.specs.Assignments.{place_of_init, place_of_lval}
-use Rattle.sv_names.specs.Subroutines.{subroutine_scope, body_scope, in_body, returns_of, for_properties, constructor_path}
+use Rattle.sv_names.specs.Subroutines.{body_scope, in_body, returns_of, for_properties, constructor_path}
 use Rattle.sv_names.specs.Writers.{Touch, Writes, Calls, Declares, Writer, Continuously, No_process, Source, Table, writer_of, stmt_touches, stmts_touches, decls_touches, init_touches, target_touches, Initialized, declares, scope_declares, nearest_declares}
-use Rattle.sv_names.specs.Instances.{Inst, Walked, Enter, Meet, Connect, Pass, PortInfo, ports_of, no_qualifiers, plain_name}
+use Rattle.sv_names.specs.Instances.{Inst, Walked, Enter, Meet, Connect, Pass, PortInfo, ports_of, plain_name}
 use Rattle.sv_names.specs.Groups.{Group}
 use Rattle.sv_names.specs.Connections.{Linked, To_expr, To_same, linked_port, output_target}
 
 -- ---- subroutines
 
 -- what is seen in the statements of a subroutine with this head
-abbrev pub within_routine : Around → Scope → Callee → Qualifiers → Option Path → tree_unit.Routine → Around
-within_routine ar s c q k r =
-    let auto : Bool = subroutine_is_automatic ar.is_automatic k r.head in
-    in_body ar (body_scope s c auto (has_result r.head)) auto (not (is_static_method q r.head)) true (returns_of (has_result r.head) c)
+abbrev pub within_routine : Around → Scope → Callee → Option Path → Method → Around
+within_routine ar s c k m =
+    let auto : Bool = subroutine_is_automatic ar.is_automatic k m.routine.head in
+    let result : Bool = has_result m.routine.head in
+    in_body ar (body_scope s c auto result) auto (not (is_static_method m)) true (returns_of result c)
 
 -- what a subroutine declares, writes and calls
-abbrev pub scope_touches : Around → Scope → Qualifiers → Option Path → tree_unit.Routine → List Touch
-scope_touches ar s q k r = within (within_routine ar s (callee_within ar s q false k r) q k r)
+abbrev pub scope_touches : Around → Scope → Option Path → Method → List Touch
+scope_touches ar s k m = within (within_routine ar s (callee_within ar s false k m) k m)
   where
     within : Around → List Touch
-    within i = nearest_declares i.scopes ++ decls_touches i r.decls ++ stmts_touches i r.stmts
+    within i = nearest_declares i.scopes ++ decls_touches i m.routine.decls ++ stmts_touches i m.routine.stmts
 
 -- the same by its path
-abbrev pub subroutine_touches : Around → Path → Qualifiers → Option Path → tree_unit.Routine → Path × List Touch
-subroutine_touches ar p q k r = (p ++ r.head.name.text ∷ [], scope_touches ar (subroutine_scope ar p q k r) q k r)
+abbrev pub subroutine_touches : Around → Path → Option Path → Method → Path × List Touch
+subroutine_touches ar p k m = (subroutine_path p m, scope_touches ar (subroutine_scope ar p k m) k m)
 
 -- ---- classes
 
@@ -95,13 +96,13 @@ opening_touches ar k is = base_touches k.base ++ flat_map (initializer_touches (
 -- what a written constructor does
 abbrev pub written_constructors : Around → ClassInfo → tree_class.ClassItem → List Touch
 written_constructors ar k (tree_class.Method m) =
-    if is_constructor m.routine.head then (subroutine_touches ar k.path m.qualifiers (Some k.path) m.routine).1 else []
+    if is_constructor m.routine.head then (subroutine_touches ar k.path (Some k.path) m).1 else []
 written_constructors ar k i = []
 
 -- what a method does
 abbrev pub method_touches : Around → ClassInfo → tree_class.ClassItem → Table
 method_touches ar k (tree_class.Method m) =
-    if is_constructor m.routine.head then [] else subroutine_touches ar k.path m.qualifiers (Some k.path) m.routine ∷ []
+    if is_constructor m.routine.head then [] else subroutine_touches ar k.path (Some k.path) m ∷ []
 method_touches ar k i = []
 
 -- the subroutines of a class
@@ -117,7 +118,7 @@ named_class ar is (Some k) = class_table (in_class k.path ar) k is
 
 -- the subroutines of an item
 abbrev pub item_table : Around → Path → Item → Table
-item_table ar p (tree_item.Routine r) = subroutine_touches ar p no_qualifiers None r ∷ []
+item_table ar p (tree_item.Routine r) = subroutine_touches ar p None (plain_routine r) ∷ []
 item_table ar p (tree_item.Class c) = named_class ar c.items (class_in ar.classes (p ++ c.name.text ∷ []))
 item_table ar p i = []
 

@@ -1,5 +1,5 @@
 -- Statements with their names resolved (IEEE 1800-2017, 9 to 12): the table of all forms.
-use Rattle.std.specs.Prelude.{ℕ, ◌+◌, Bool, true, false, not, ◌&&◌, List, [], ◌∷◌, ◌++◌, Option, Some, None, if◌then◌else◌, flat_map}
+use Rattle.std.specs.Prelude.{ℕ, Bool, true, false, not, ◌&&◌, List, [], ◌∷◌, ◌++◌, Option, Some, None, if◌then◌else◌, flat_map}
 use Rattle.sv_value.specs.declared.place.Place.{Place}
 use Rattle.sv_value.specs.declared.number.RoutineId.{RoutineId}
 use Rattle.sv_flat.specs.declared.class.Routine.{Routine}
@@ -312,14 +312,16 @@ block_in ar at s es ds go =
     where_also scope_stands s es
 
 -- a fork in its scope
-abbrev pub fork_in : Around → Place → Scope → List Entry → List Decl → JoinWord → (Around → Checked (Numbered (List RoutineId))) → Checked Code
+abbrev pub fork_in :
+    Around → Place → Scope → List Entry → List Decl → JoinWord → (Around → Checked (Numbered (List RoutineId))) → Checked Code
 fork_in ar at s es ds j go =
     given (λ p. fork_code at (locals_of ar.numbers s) j p.0 p.1)
     (both (decls_code (inside s ar) ds) (go (in_fork (inside s ar))))
     where_also scope_stands s es
 
 -- a `for` that declares its variable
-abbrev pub for_in : Around → Place → Scope → List Entry → Name → tree.Expr → tree.Expr → ForStep → (Around → Checked Code) → Checked Code
+abbrev pub for_in :
+    Around → Place → Scope → List Entry → Name → tree.Expr → tree.Expr → ForStep → (Around → Checked Code) → Checked Code
 for_in ar at s es n v e l go =
     given (λ p. for_code at (locals_of ar.numbers s) p.0.0 p.0.1 p.1.0 p.1.1)
     (both (both (first_of_loop (inside s ar)) (condition (inside s ar) e))
@@ -373,12 +375,12 @@ abbrev mutual
   pub body : Around → Place → Option Name → tree_stmt.Body → Checked Code
   body ar at label tree_stmt.Null = Good (plain (place_from at label) form.Null)
   body ar at label (tree_stmt.Block n ds xs end) =
-      block_in ar (place_from at label) (inner_scope ar (first_name n label) (block_entries ar ds xs)) (block_entries ar ds xs) ds
-      (λ i. stmts i xs)
+      block_in ar (place_from at label) (inner_scope ar (first_name n label) (block_entries ar ds xs))
+      (block_entries ar ds xs) ds (λ i. stmts i xs)
       where_also end_label (first_name n label) end
   body ar at label (tree_stmt.Fork n ds xs j end) =
-      fork_in ar (place_from at label) (inner_scope ar (first_name n label) (block_entries ar ds xs)) (block_entries ar ds xs) ds j
-      (λ i. children i (place_from at label) xs)
+      fork_in ar (place_from at label) (inner_scope ar (first_name n label) (block_entries ar ds xs))
+      (block_entries ar ds xs) ds j (λ i. children i (place_from at label) xs)
       where_also end_label (first_name n label) end
       where_also rule 27 at (waits_for_children j && ar.may_not_wait)
   body ar at label (tree_stmt.Blocking a) =
@@ -412,7 +414,8 @@ abbrev mutual
       where_also may_wait_here ar d.at
   body ar at label (tree_stmt.On e x) = at_event ar (place_from at label) e (stmt ar x) where_also may_wait_here ar at
   body ar at label (tree_stmt.Cycles p e x) =
-      then_code (place_from at label) (raised ar (λ i. cycles_form i p (amount_of i e))) (stmt ar x) where_also may_wait_here ar p
+      then_code (place_from at label) (raised ar (λ i. cycles_form i p (amount_of i e))) (stmt ar x)
+      where_also may_wait_here ar p
   body ar at label (tree_stmt.Wait p e x) =
       then_code (place_from at label) (given (mapped form.Wait) (condition (in_event ar) e)) (stmt ar x)
       where_also may_wait_here ar p

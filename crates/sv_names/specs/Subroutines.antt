@@ -1,5 +1,5 @@
 -- Subroutines of the flat design: tasks, functions, methods and constructors (IEEE 1800-2017, 8.7, 8.15 and 13).
-use Rattle.std.specs.Prelude.{◌+◌, Bool, true, false, not, ◌||◌, List, [], ◌∷◌, ◌++◌, Option, Some, None, if◌then◌else◌, codes}
+use Rattle.std.specs.Prelude.{Bool, true, false, not, ◌||◌, List, [], ◌∷◌, ◌++◌, Option, Some, None, if◌then◌else◌, codes}
 use Rattle.sv_value.specs.declared.place.Place.{Place}
 use Rattle.sv_flat.specs.declared.object.Object.{Object}
 use Rattle.sv_flat.specs.declared.object.ObjectKind.TheVariants as object_kind
@@ -14,13 +14,12 @@ use Rattle.sv_flat.specs.declared.stmt.Form.{Form}
 use Rattle.sv_flat.specs.declared.stmt.Form.TheVariants as form
 use Rattle.sv_flat.specs.declared.call.CallForm.TheVariants as call
 use Rattle.sv_tree.specs.declared.word.Name.{Name}
-use Rattle.sv_tree.specs.declared.word.Direction.{Direction as Written_direction}
+use Rattle.sv_tree.specs.declared.word.Direction.{Direction as WrittenDirection}
 use Rattle.sv_tree.specs.declared.word.Direction.TheVariants as direction
 use Rattle.sv_tree.specs.Expr as tree
 use Rattle.sv_tree.specs.Stmt as tree_stmt
-use Rattle.sv_tree.specs.Units as tree_unit
 use Rattle.sv_tree.specs.Classes as tree_class
-use Rattle.sv_tree.specs.declared.class.Qualifiers.{Qualifiers}
+use Rattle.sv_tree.specs.Units.{Head, Method}
 use Rattle.sv_names.specs.declared.around.ClassInfo.{ClassInfo}
 use Rattle.sv_names.specs.declared.around.Returns.{Returns}
 use Rattle.sv_names.specs.declared.around.Returns.TheVariants.{NoValue, SomeValue}
@@ -35,7 +34,7 @@ use Rattle.sv_names.specs.declared.named.Kind.TheVariants.{Object as Of_object}
 use Rattle.sv_names.specs.declared.named.Named.{Named}
 use Rattle.sv_names.specs.declared.named.Named.TheVariants.{Variable, Local, Itself, Property, Subroutine as A_subroutine}
 use Rattle.sv_names.specs.declared.named.Callee.{Callee}
-use Rattle.sv_names.specs.declared.named.Formal.{Formal as Argument_of}
+use Rattle.sv_names.specs.declared.named.Formal.{Formal as FormalArgument}
 use Rattle.sv_names.specs.Checked.{both, ◌▷◌, given, broken_at, ◌where_also◌}
 use Rattle.sv_names.specs.Types.{Path, data_of, is_fixed}
 use Rattle.sv_names.specs.Hoisted.{mapped, in_row}
@@ -45,9 +44,9 @@ use Rattle.sv_names.specs.Formats.{Arg, values_stand}
 use Rattle.sv_names.specs.Calls.{as_input}
 use Rattle.sv_names.specs.Things.{this_typed, field_typed}
 use Rattle.sv_names.specs.Expressions.{actual_args}
-use Rattle.sv_names.specs.Entries.{Taken, taken, is_task, has_result, pure_qualifiers, subroutine_is_automatic, twice, subroutine_entries, this_name}
+use Rattle.sv_names.specs.Entries.{Taken, taken, is_task, has_result, subroutine_is_automatic, twice, this_name}
 use Rattle.sv_names.specs.Declarations.{result_of_life}
-use Rattle.sv_names.specs.Scopes.{settled_scope, callee_stands, known_stand, scope_of, callee_within, all_entries, subroutine_enters}
+use Rattle.sv_names.specs.Scopes.{callee_stands, known_stand, scope_of, callee_within, all_entries, subroutine_scope}
 use Rattle.sv_names.specs.Code.{Numbered, Code, changed, empty, single, locals_of, with_objects, home_of, object_at}
 use Rattle.sv_names.specs.Assignments.{constructor_in, with_constructor, assignment}
 use Rattle.sv_names.specs.Blocks.{end_label, decls_code, in_sequence}
@@ -96,7 +95,7 @@ in_body ar s auto object waits r =
 -- ---- arguments and result
 
 -- the direction of an argument
-abbrev pub way_of : Written_direction → Direction
+abbrev pub way_of : WrittenDirection → Direction
 way_of direction.Input = way.Input
 way_of direction.Output = way.Output
 way_of direction.Inout = way.Inout
@@ -176,55 +175,48 @@ abbrev pub Before : Type 0
 Before = Around → Checked Code
 
 -- a subroutine over its scope
-abbrev pub subroutine_in : Around → Scope → Callee → Qualifiers → tree_unit.Routine → tree_stmt.Stmts → Before → Checked MadeSubroutine
-subroutine_in ar s c q r xs before =
-    let auto : Bool = subroutine_is_automatic ar.is_automatic c.class r.head in
-    let i : Around = in_body ar s auto (not c.is_static) c.is_task (returns_of (has_result r.head) c) in
+abbrev pub subroutine_in : Around → Scope → Callee → Method → tree_stmt.Stmts → Before → Checked MadeSubroutine
+subroutine_in ar s c m xs before =
+    let h : Head = m.routine.head in
+    let auto : Bool = subroutine_is_automatic ar.is_automatic c.class h in
+    let i : Around = in_body ar s auto (not c.is_static) c.is_task (returns_of (has_result h) c) in
+    let fs : List Formal = object_formal ar s ++ argument_formals ar s (taken h) in
     given (λ x. record {
       path = c.path;
-      routine = routine_at r.head.name.at
-          (subroutine_of ar s (not (is_task r.head)) auto (object_formal ar s ++ argument_formals ar s (taken r.head)) (result_formal ar s))
-          (with_objects (argument_objects i s (taken r.head) ++ result_objects i s r.head.name) x);
+      routine = routine_at h.name.at (subroutine_of ar s (not (is_task h)) auto fs (result_formal ar s))
+          (with_objects (argument_objects i s (taken h) ++ result_objects i s h.name) x);
     })
-    (in_sequence (before i) (in_sequence (decls_code i r.decls) (stmts i xs)))
+    (in_sequence (before i) (in_sequence (decls_code i m.routine.decls) (stmts i xs)))
 
--- its settled scope
-abbrev pub subroutine_scope : Around → Path → Qualifiers → Option Path → tree_unit.Routine → Scope
-subroutine_scope ar p q k r =
-    settled_scope ar (p ++ r.head.name.text ∷ []) k (subroutine_enters ar q k r) (all_entries ar q k r)
-
--- E5: the end label of a subroutine
-abbrev pub label_of : tree_unit.Routine → Checked (Unit {0})
-label_of r = end_label (Some r.head.name) r.label
+-- E5: what the declarations and the end label of a subroutine break
+abbrev pub routine_stands : Around → Scope → Callee → Option Path → Method → Checked (Unit {0})
+routine_stands ar s c k m =
+    known_stand s.known where_also callee_stands c where_also twice (λ e. 5) [] (all_entries ar k m)
+    where_also end_label (Some m.routine.head.name) m.routine.label
 
 -- a subroutine, and the rules on its declarations
-abbrev pub made_over : Around → Scope → Callee → Qualifiers → Option Path → tree_unit.Routine → tree_stmt.Stmts → Before → Checked MadeSubroutine
-made_over ar s c q k r xs before =
-    subroutine_in ar (body_scope s c (subroutine_is_automatic ar.is_automatic k r.head) (has_result r.head)) c q r xs before
-    where_also known_stand s.known
-    where_also callee_stands c
-    where_also twice (λ e. 5) [] (subroutine_entries ar.is_automatic q k r)
-    where_also label_of r
+abbrev pub made_over : Around → Scope → Callee → Option Path → Method → tree_stmt.Stmts → Before → Checked MadeSubroutine
+made_over ar s c k m xs before =
+    let auto : Bool = subroutine_is_automatic ar.is_automatic k m.routine.head in
+    subroutine_in ar (body_scope s c auto (has_result m.routine.head)) c m xs before where_also routine_stands ar s c k m
 
 -- a subroutine in its scope; `p` is the path of what declares it
-abbrev pub made_subroutine : Around → Path → Qualifiers → Option Path → tree_unit.Routine → tree_stmt.Stmts → Before → Checked MadeSubroutine
-made_subroutine ar p q k r xs before = with_scope (subroutine_scope ar p q k r)
+abbrev pub made_subroutine : Around → Path → Option Path → Method → tree_stmt.Stmts → Before → Checked MadeSubroutine
+made_subroutine ar p k m xs before = with_scope (subroutine_scope ar p k m)
   where
     with_scope : Scope → Checked MadeSubroutine
-    with_scope s = made_over ar s (callee_within ar s q false k r) q k r xs before
+    with_scope s = made_over ar s (callee_within ar s false k m) k m xs before
 
 -- nothing stands before the statements
 abbrev pub nothing_before : Before
 nothing_before i = Good empty
 
 -- a method that is pure has a head alone
-abbrev pub pure_stands : Around → Path → Option Path → tree_unit.Routine → Checked (Unit {0})
-pure_stands ar p k r = with_scope (subroutine_scope ar p pure_qualifiers k r)
+abbrev pub pure_stands : Around → Path → Option Path → Method → Checked (Unit {0})
+pure_stands ar p k m = with_scope (subroutine_scope ar p k m)
   where
     with_scope : Scope → Checked (Unit {0})
-    with_scope s =
-        known_stand s.known where_also callee_stands (callee_within ar s pure_qualifiers true k r)
-        where_also twice (λ e. 5) [] (subroutine_entries ar.is_automatic pure_qualifiers k r)
+    with_scope s = routine_stands ar s (callee_within ar s true k m) k m
 
 -- ---- constructors
 
@@ -247,7 +239,7 @@ super_code i at pe base as' (Some k) =
     given (λ p. super_form s base p.0 p.1) (both (this_typed s at) (with_constructor s pe base (as' s) (constructor_in k)))))
 
 -- E40: a base constructor needs arguments and none are given
-abbrev pub needs_arguments : List Argument_of → Bool
+abbrev pub needs_arguments : List FormalArgument → Bool
 needs_arguments [] = false
 needs_arguments (f ∷ fs) = lacks f.default || needs_arguments fs
   where
@@ -364,7 +356,7 @@ implied_constructor ar k is =
     (constructor_before ar k is k.name.at No_super (for_properties ar k k.name.at))
 
 -- a constructor that is written
-abbrev pub written_constructor : Around → ClassInfo → List tree_class.ClassItem → Qualifiers → tree_unit.Routine → Checked MadeSubroutine
-written_constructor ar k is q r =
-    made_subroutine ar k.path q (Some k.path) r (after_opening r.stmts)
-    (constructor_before ar k is r.head.name.at (opening_of r.stmts))
+abbrev pub written_constructor : Around → ClassInfo → List tree_class.ClassItem → Method → Checked MadeSubroutine
+written_constructor ar k is m =
+    made_subroutine ar k.path (Some k.path) m (after_opening m.routine.stmts)
+    (constructor_before ar k is m.routine.head.name.at (opening_of m.routine.stmts))
