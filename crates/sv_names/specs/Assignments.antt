@@ -37,7 +37,7 @@ use Rattle.sv_names.specs.declared.typed.Begin.{Begin}
 use Rattle.sv_names.specs.Checked.{both, ◌▷◌, given, broken_at, rule, fine, ◌where_also◌, only, also_broken}
 use Rattle.sv_names.specs.Types.{Path, int_type, longint_type, is_container, is_fixed, is_sync, is_dynamic, same_type, item_of, data_of, plain_of}
 use Rattle.sv_names.specs.Hoisted.{pure, mapped, paired, three, in_row, if_any, result_of}
-use Rattle.sv_names.specs.Named.{Around, class_in, in_known, is_derived, in_turn, behind}
+use Rattle.sv_names.specs.Named.{Around, class_in, in_known, can_be_derived, in_turn, behind}
 use Rattle.sv_names.specs.Values.{value_typed, assigned, exactly, alone}
 use Rattle.sv_names.specs.Operators.{kind_of, binary_of, ticks_in, literal_typed}
 use Rattle.sv_names.specs.Selects.{container_of}
@@ -90,9 +90,13 @@ abbrev pub assign_form : Option Amount → Hoisted (List Lvalue) → Hoisted fla
 assign_form None ls e = paired form.Assign ls e
 assign_form (Some d) ls e = three (λ x a v. form.AssignAfter x v a d.in_ticks) ls d.amount e
 
+-- a container becomes a copy of another
+abbrev pub copied_into : Typed → Hoisted flat.Expr → Hoisted Form
+copied_into t e = paired (λ x y. form.CopyContainer (container_of x) (container_of y)) t.code e
+
 -- E42: a container is not assigned after a delay
 abbrev pub copy_form : Option Amount → Typed → Hoisted flat.Expr → Checked (Hoisted Form)
-copy_form None t e = Good (paired (λ x y. form.CopyContainer (container_of x) (container_of y)) t.code e)
+copy_form None t e = Good (copied_into t e)
 copy_form (Some d) t e = broken_at 42 t.at
 
 -- a value for a target: a container is copied, all else is written
@@ -155,7 +159,7 @@ new_given ar d at ss as' =
 
 -- whether `new h` of the second class fits a variable of the first
 abbrev pub copied : Around → Ty → Ty → Bool
-copied ar (Class p) (Class q) = is_derived ar.classes q p
+copied ar (Class p) (Class q) = can_be_derived ar.classes q p
 copied ar t u = false
 
 -- E16: `new h` of a reference (8.12)

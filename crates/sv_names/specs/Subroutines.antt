@@ -1,5 +1,5 @@
 -- Subroutines of the flat design: tasks, functions, methods and constructors (IEEE 1800-2017, 8.7, 8.15 and 13).
-use Rattle.std.specs.Prelude.{Bool, true, false, not, ◌||◌, List, [], ◌∷◌, ◌++◌, Option, Some, None, if◌then◌else◌, codes}
+use Rattle.std.specs.Prelude.{Bool, true, false, not, ◌||◌, List, [], ◌∷◌, ◌++◌, Option, Some, None, is_some, if◌then◌else◌, codes}
 use Rattle.sv_value.specs.declared.place.Place.{Place}
 use Rattle.sv_flat.specs.declared.object.Object.{Object}
 use Rattle.sv_flat.specs.declared.object.ObjectKind.TheVariants as object_kind
@@ -271,7 +271,7 @@ implied_super i k at (Some b) =
 -- E38: `super.new` in a class that extends none
 abbrev pub written_super : Around → ClassInfo → Place → Place → (Around → List Arg) → Option Path → Checked Code
 written_super i k at ps as' None =
-    (if k.extends then Good empty else broken_at 38 ps) where_also values_stand (as' i)
+    (if is_some k.base_fault then Good empty else broken_at 38 ps) where_also values_stand (as' i)
 written_super i k at ps as' (Some b) = super_code i at ps b as' (class_in i.classes b)
 
 -- how a constructor begins

@@ -13,6 +13,7 @@ use Rattle.sv_names.specs.declared.typed.How.{How}
 use Rattle.sv_names.specs.declared.around.ClassInfo.{ClassInfo}
 use Rattle.sv_names.specs.declared.around.Dollar.{Dollar}
 use Rattle.sv_names.specs.declared.around.Dollar.TheVariants.{NoDollar, UnknownDollar, LastIndex}
+use Rattle.sv_names.specs.declared.checked.Fault.{Fault}
 use Rattle.sv_names.specs.declared.checked.Checked.{Checked}
 use Rattle.sv_names.specs.declared.checked.Checked.TheVariants.{Good, Broken}
 use Rattle.sv_names.specs.declared.ty.Ty.{Ty}
@@ -28,7 +29,7 @@ use Rattle.sv_names.specs.declared.named.SignalInfo.{SignalInfo}
 use Rattle.sv_names.specs.Checked.{◌▷◌, given, broken_at, rule, ◌where_also◌, unless, also_broken}
 use Rattle.sv_names.specs.Types.{Path, is_queue, data_of, same_bytes}
 use Rattle.sv_names.specs.Hoisted.{pure, mapped, paired}
-use Rattle.sv_names.specs.Named.{Around, class_in, is_derived, member_of, property_place, found, told, meaning, kind_stands, is_type_kind, is_value_kind, result_named, further}
+use Rattle.sv_names.specs.Named.{Around, class_in, is_derived, line_of, broken_end, member_of, property_place, found, told, meaning, kind_stands, is_type_kind, is_value_kind, result_named, further}
 use Rattle.sv_names.specs.Values.{no_target}
 use Rattle.sv_names.specs.Targets.{Spot, may_be_written}
 use Rattle.sv_names.specs.Methods.{Method, method_of}
@@ -205,9 +206,17 @@ member_thing ar at o direct (Subroutine c) = subroutine_thing ar at c o direct
 member_thing ar at o direct (Constant t p) = Good (A_value (after_object o (constant_named at p t)))
 member_thing ar at o direct n = broken_at 7 at
 
--- E36: a member by its name
+-- E36: a member that is not found can stand behind a base that breaks a rule
+abbrev pub member_found : Place → Option Fault → Option (Checked Named) → Checked (Checked Named)
+member_found at b (Some c) = Good c
+member_found at (Some f) None = Broken f
+member_found at None None = broken_at 36 at
+
+-- a member by its name
 abbrev pub member_named : Around → Path → Option Typed → Bool → Name → Checked Thing
-member_named ar k o direct n = unless 36 n.at (member_of ar k n.text) ▷ (λ c. told n c ▷ member_thing ar n.at o direct)
+member_named ar k o direct n =
+    member_found n.at (broken_end (line_of ar.classes k)) (member_of ar k n.text)
+    ▷ (λ c. told n c ▷ member_thing ar n.at o direct)
 
 -- the object, where it is one of the class
 abbrev pub object_of : Around → Place → Path → Option Typed

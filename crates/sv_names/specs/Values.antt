@@ -20,7 +20,7 @@ use Rattle.sv_names.specs.declared.typed.Begin.TheVariants.{Value as A_value}
 use Rattle.sv_names.specs.Checked.{◌▷◌, given, broken_at, rule}
 use Rattle.sv_names.specs.Types.{is_integral, is_text, is_array, is_container, is_sync, is_null, is_enum, same_enum, same_type, width_of_type, sign_of_type, Path}
 use Rattle.sv_names.specs.Hoisted.{mapped}
-use Rattle.sv_names.specs.Named.{Around, is_derived}
+use Rattle.sv_names.specs.Named.{Around, can_be_derived}
 
 -- ---- expressions that are no targets
 
@@ -140,7 +140,7 @@ abbrev pub common_reference : List ClassInfo → Ty → Ty → Option Ty
 common_reference ks Null b = Some b
 common_reference ks a Null = Some a
 common_reference ks (Class a) (Class b) =
-    if is_derived ks a b then Some (Class b) else (if is_derived ks b a then Some (Class a) else None)
+    if can_be_derived ks a b then Some (Class b) else (if can_be_derived ks b a then Some (Class a) else None)
 common_reference ks a b = if same_type a b then Some a else None
 
 -- E16, E42: a container for a container of its type
@@ -165,7 +165,7 @@ assigned_if false at t = broken_at 16 at
 -- whether a class variable takes it
 abbrev pub fits_class : List ClassInfo → Path → Ty → Bool
 fits_class ks p Null = true
-fits_class ks p (Class q) = is_derived ks q p
+fits_class ks p (Class q) = can_be_derived ks q p
 fits_class ks p t = false
 
 -- E16: a value by the type of its target
