@@ -370,8 +370,14 @@ initial_given ar at t (tree_stmt.Value e) =
 initial_given ar at t (tree_stmt.New p a) = new_at_opening ar at t p (actual_args ar a)
 initial_given ar at t i = broken_at 25 (place_of_init i) where_also only (init_given ar None (at_name at t) i)
 
+-- E25: `new[n]` and `new h` are made at no opening, whatever the type
+abbrev pub not_at_opening : Init → Checked (Unit {0})
+not_at_opening (tree_stmt.Copy at n) = broken_at 25 at
+not_at_opening (tree_stmt.Array at n old) = broken_at 25 at
+not_at_opening i = fine
+
 -- the initializer of a static variable; it breaks rules beside its type
 abbrev pub initial_of : Around → Place → Checked Ty → Option Init → Checked (Option Initial)
 initial_of ar at t None = given (λ x. None) t
 initial_of ar at (Good t) (Some i) = given Some (initial_given (at_opening ar) at t i)
-initial_of ar at (Broken f) (Some i) = also_broken f (init_alone (at_opening ar) i)
+initial_of ar at (Broken f) (Some i) = also_broken f (init_alone (at_opening ar) i where_also not_at_opening i)

@@ -491,3 +491,27 @@ t58 = module_ (at 0 1 1) life.Unwritten (name (at 0 1 8) "t") None [] (items.Cla
 t58_broken : broken t58 [] None ≡ Some (fault 16 0 1 51)
 unfolding symbols_of word_of
 t58_broken = refl
+
+-- module t; T x = new[3]; typedef logic [undef:0] T; endmodule
+abbrev t59 : List Description
+t59 = module_ (at 0 1 1) life.Unwritten (name (at 0 1 8) "t") None [] (items.Decl (decl life.Unwritten (types.Named (name (at 0 1 11) "T")) (declarator (name (at 0 1 13) "x") None (Some (stmts.Array (at 0 1 17) (number (at 0 1 21) "3") None)) ∷ [])) ∷ items.Typedef (typedef (types.WrittenType.Vector (at 0 1 33) vector_word.Logic sign.Unwritten (Some (range (at 0 1 39) (plain (at 0 1 40) "undef") (number (at 0 1 46) "0")))) (name (at 0 1 49) "T")) ∷ []) None ∷ []
+
+t59_broken : broken t59 [] None ≡ Some (fault 25 0 1 17)
+unfolding symbols_of word_of
+t59_broken = refl
+
+-- module t; C h; T x = new h; class C; endclass typedef logic [undef:0] T; endmodule
+abbrev t60 : List Description
+t60 = module_ (at 0 1 1) life.Unwritten (name (at 0 1 8) "t") None [] (items.Decl (decl life.Unwritten (types.Named (name (at 0 1 11) "C")) (declarator (name (at 0 1 13) "h") None None ∷ [])) ∷ items.Decl (decl life.Unwritten (types.Named (name (at 0 1 16) "T")) (declarator (name (at 0 1 18) "x") None (Some (stmts.Copy (at 0 1 22) (name (at 0 1 26) "h"))) ∷ [])) ∷ items.Class (class_ (at 0 1 29) false (name (at 0 1 35) "C") None [] None) ∷ items.Typedef (typedef (types.WrittenType.Vector (at 0 1 55) vector_word.Logic sign.Unwritten (Some (range (at 0 1 61) (plain (at 0 1 62) "undef") (number (at 0 1 68) "0")))) (name (at 0 1 71) "T")) ∷ []) None ∷ []
+
+t60_broken : broken t60 [] None ≡ Some (fault 25 0 1 22)
+unfolding symbols_of word_of
+t60_broken = refl
+
+-- module t; T x = new; typedef logic [undef:0] T; endmodule
+abbrev t61 : List Description
+t61 = module_ (at 0 1 1) life.Unwritten (name (at 0 1 8) "t") None [] (items.Decl (decl life.Unwritten (types.Named (name (at 0 1 11) "T")) (declarator (name (at 0 1 13) "x") None (Some (stmts.New (at 0 1 17) tree.Unwritten)) ∷ [])) ∷ items.Typedef (typedef (types.WrittenType.Vector (at 0 1 30) vector_word.Logic sign.Unwritten (Some (range (at 0 1 36) (plain (at 0 1 37) "undef") (number (at 0 1 43) "0")))) (name (at 0 1 46) "T")) ∷ []) None ∷ []
+
+t61_broken : broken t61 [] None ≡ Some (fault 6 0 1 37)
+unfolding symbols_of word_of
+t61_broken = refl
