@@ -13,6 +13,7 @@ use Rattle.sv_tree.specs.declared.word.Sign.TheVariants as sign
 use Rattle.sv_tree.specs.declared.word.Life.TheVariants as life
 use Rattle.sv_tree.specs.declared.word.CaseWord.TheVariants as case_word
 use Rattle.sv_tree.specs.declared.word.EdgeWord.TheVariants as edge
+use Rattle.sv_tree.specs.declared.word.StepWord.TheVariants as step_word
 use Rattle.sv_tree.specs.declared.word.ProcedureWord.TheVariants as procedure_word
 use Rattle.sv_tree.specs.declared.word.Direction.TheVariants as direction
 use Rattle.sv_tree.specs.declared.word.ParamWord.TheVariants as param_word
@@ -515,3 +516,67 @@ t61 = module_ (at 0 1 1) life.Unwritten (name (at 0 1 8) "t") None [] (items.Dec
 t61_broken : broken t61 [] None ≡ Some (fault 6 0 1 37)
 unfolding symbols_of word_of
 t61_broken = refl
+
+-- module t; enum {A = B.name().len(), B} e; endmodule
+abbrev t62 : List Description
+t62 = module_ (at 0 1 1) life.Unwritten (name (at 0 1 8) "t") None [] (items.Decl (decl life.Unwritten (types.Enum (at 0 1 11) (enum_item (name (at 0 1 17) "A") (Some (tree.Expr.Post (root.Plain (name (at 0 1 21) "B")) (tree.Member (name (at 0 1 23) "name") (tree.Call (at 0 1 27) tree.NoExpr (tree.Member (name (at 0 1 30) "len") (tree.Call (at 0 1 33) tree.NoExpr tree.NoSuffix)))))) ∷ enum_item (name (at 0 1 37) "B") None ∷ [])) (declarator (name (at 0 1 40) "e") None None ∷ [])) ∷ []) None ∷ []
+
+t62_broken : broken t62 [] None ≡ Some (fault 11 0 1 21)
+unfolding symbols_of word_of
+t62_broken = refl
+
+-- module t; typedef enum {A = Q.len(), B} e_t; localparam e_t P = e_t'(1); localparam string Q = P.name(); endmodule
+abbrev t63 : List Description
+t63 = module_ (at 0 1 1) life.Unwritten (name (at 0 1 8) "t") None [] (items.Typedef (typedef (types.Enum (at 0 1 19) (enum_item (name (at 0 1 25) "A") (Some (tree.Expr.Post (root.Plain (name (at 0 1 29) "Q")) (tree.Member (name (at 0 1 31) "len") (tree.Call (at 0 1 34) tree.NoExpr tree.NoSuffix)))) ∷ enum_item (name (at 0 1 38) "B") None ∷ [])) (name (at 0 1 41) "e_t")) ∷ items.Param (param param_word.Localparam (types.Written (types.Named (name (at 0 1 57) "e_t"))) (value (name (at 0 1 61) "P") (tree.Cast (cast.Named (name (at 0 1 65) "e_t")) (number (at 0 1 70) "1")) ∷ [])) ∷ items.Param (param param_word.Localparam (types.Written (types.Text (at 0 1 85))) (value (name (at 0 1 92) "Q") (tree.Expr.Post (root.Plain (name (at 0 1 96) "P")) (tree.Member (name (at 0 1 98) "name") (tree.Call (at 0 1 102) tree.NoExpr tree.NoSuffix))) ∷ [])) ∷ []) None ∷ []
+
+t63_broken : broken t63 [] None ≡ Some (fault 11 0 1 29)
+unfolding symbols_of word_of
+t63_broken = refl
+
+-- module t; typedef enum {A, B} e_t; localparam string s = B.name(); e_t e = B; initial $display("%s %s", s, e.name()); endmodule
+abbrev t64 : List Description
+t64 = module_ (at 0 1 1) life.Unwritten (name (at 0 1 8) "t") None [] (items.Typedef (typedef (types.Enum (at 0 1 19) (enum_item (name (at 0 1 25) "A") None ∷ enum_item (name (at 0 1 28) "B") None ∷ [])) (name (at 0 1 31) "e_t")) ∷ items.Param (param param_word.Localparam (types.Written (types.Text (at 0 1 47))) (value (name (at 0 1 54) "s") (tree.Expr.Post (root.Plain (name (at 0 1 58) "B")) (tree.Member (name (at 0 1 60) "name") (tree.Call (at 0 1 64) tree.NoExpr tree.NoSuffix))) ∷ [])) ∷ items.Decl (decl life.Unwritten (types.Named (name (at 0 1 68) "e_t")) (declarator (name (at 0 1 72) "e") None (Some (stmts.Value (plain (at 0 1 76) "B"))) ∷ [])) ∷ procedure (at 0 1 79) procedure_word.Initial (stmts.Statement (at 0 1 87) None (stmts.Call (system (at 0 1 87) "$display" (text (at 0 1 96) "%s %s" ∷ plain (at 0 1 105) "s" ∷ tree.Expr.Post (root.Plain (name (at 0 1 108) "e")) (tree.Member (name (at 0 1 110) "name") (tree.Call (at 0 1 114) tree.NoExpr tree.NoSuffix)) ∷ [])))) ∷ []) None ∷ []
+
+t64_seen : seen_in (Listed []) (Listed []) (elaborated t64 [] None) 7 ≡ Ran (record { log = lines ("B B" ∷ []); wave = lines ("$timescale 1ns $end" ∷ "$scope module t $end" ∷ "$var reg 32 ! e $end" ∷ "$upscope $end" ∷ "$enddefinitions $end" ∷ "#0" ∷ "$dumpvars" ∷ "b1 !" ∷ "$end" ∷ []); outcome = Done; time = 0; steps = 4; race = Some (8, at 0 1 79) })
+unfolding symbols_of word_of
+t64_seen = refl
+
+-- module t; class A extends B; endclass class B extends A; endclass A a; initial a.f(); endmodule
+abbrev t65 : List Description
+t65 = module_ (at 0 1 1) life.Unwritten (name (at 0 1 8) "t") None [] (items.Class (class_ (at 0 1 11) false (name (at 0 1 17) "A") (Some (name (at 0 1 27) "B")) [] None) ∷ items.Class (class_ (at 0 1 39) false (name (at 0 1 45) "B") (Some (name (at 0 1 55) "A")) [] None) ∷ items.Decl (decl life.Unwritten (types.Named (name (at 0 1 67) "A")) (declarator (name (at 0 1 69) "a") None None ∷ [])) ∷ procedure (at 0 1 72) procedure_word.Initial (stmts.Statement (at 0 1 80) None (stmts.Call (tree.Expr.Post (root.Plain (name (at 0 1 80) "a")) (tree.Member (name (at 0 1 82) "f") (tree.Call (at 0 1 83) tree.NoExpr tree.NoSuffix))))) ∷ []) None ∷ []
+
+t65_broken : broken t65 [] None ≡ Some (fault 33 0 1 27)
+unfolding symbols_of word_of
+t65_broken = refl
+
+-- module t; class A; endclass class B extends U; endclass B b; A a; initial if (a == b) ; endmodule
+abbrev t66 : List Description
+t66 = module_ (at 0 1 1) life.Unwritten (name (at 0 1 8) "t") None [] (items.Class (class_ (at 0 1 11) false (name (at 0 1 17) "A") None [] None) ∷ items.Class (class_ (at 0 1 29) false (name (at 0 1 35) "B") (Some (name (at 0 1 45) "U")) [] None) ∷ items.Decl (decl life.Unwritten (types.Named (name (at 0 1 57) "B")) (declarator (name (at 0 1 59) "b") None None ∷ [])) ∷ items.Decl (decl life.Unwritten (types.Named (name (at 0 1 62) "A")) (declarator (name (at 0 1 64) "a") None None ∷ [])) ∷ procedure (at 0 1 67) procedure_word.Initial (stmts.Statement (at 0 1 75) None (stmts.If (tree.Binary binary_word.Equal (at 0 1 81) (plain (at 0 1 79) "a") (plain (at 0 1 84) "b")) (stmts.Statement (at 0 1 87) None stmts.Null))) ∷ []) None ∷ []
+
+t66_broken : broken t66 [] None ≡ Some (fault 6 0 1 45)
+unfolding symbols_of word_of
+t66_broken = refl
+
+-- module t; logic [3:0] a = 0; int i; initial begin for (int j = 0; j < 1; j++) begin int k; k = 1; i = i + k; end end initial for (int j = 0; j < 1; j++) begin int k; i = i + k; end endmodule
+abbrev t67 : List Description
+t67 = module_ (at 0 1 1) life.Unwritten (name (at 0 1 8) "t") None [] (items.Decl (decl life.Unwritten (types.WrittenType.Vector (at 0 1 11) vector_word.Logic sign.Unwritten (Some (range (at 0 1 17) (number (at 0 1 18) "3") (number (at 0 1 20) "0")))) (declarator (name (at 0 1 23) "a") None (Some (stmts.Value (number (at 0 1 27) "0"))) ∷ [])) ∷ items.Decl (decl life.Unwritten (types.Atom (at 0 1 30) atom_word.Int sign.Unwritten) (declarator (name (at 0 1 34) "i") None None ∷ [])) ∷ procedure (at 0 1 37) procedure_word.Initial (stmts.Statement (at 0 1 45) None (stmts.Block None [] (statements (stmts.Statement (at 0 1 51) None (stmts.For (stmts.Declare (types.Atom (at 0 1 56) atom_word.Int sign.Unwritten) (name (at 0 1 60) "j") (number (at 0 1 64) "0")) (tree.Binary binary_word.Less (at 0 1 69) (plain (at 0 1 67) "j") (number (at 0 1 71) "1")) (stmts.ForStep.Step (at 0 1 74) (target (at 0 1 74) "j") step_word.Increment) (stmts.Statement (at 0 1 79) None (stmts.Block None (decl life.Unwritten (types.Atom (at 0 1 85) atom_word.Int sign.Unwritten) (declarator (name (at 0 1 89) "k") None None ∷ []) ∷ []) (statements (stmts.Statement (at 0 1 92) None (blocking (target (at 0 1 92) "k") None (stmts.Value (number (at 0 1 96) "1"))) ∷ stmts.Statement (at 0 1 99) None (blocking (target (at 0 1 99) "i") None (stmts.Value (tree.Binary binary_word.Plus (at 0 1 105) (plain (at 0 1 103) "i") (plain (at 0 1 107) "k")))) ∷ [])) None))) ∷ [])) None)) ∷ procedure (at 0 1 118) procedure_word.Initial (stmts.Statement (at 0 1 126) None (stmts.For (stmts.Declare (types.Atom (at 0 1 131) atom_word.Int sign.Unwritten) (name (at 0 1 135) "j") (number (at 0 1 139) "0")) (tree.Binary binary_word.Less (at 0 1 144) (plain (at 0 1 142) "j") (number (at 0 1 146) "1")) (stmts.ForStep.Step (at 0 1 149) (target (at 0 1 149) "j") step_word.Increment) (stmts.Statement (at 0 1 154) None (stmts.Block None (decl life.Unwritten (types.Atom (at 0 1 160) atom_word.Int sign.Unwritten) (declarator (name (at 0 1 164) "k") None None ∷ []) ∷ []) (statements (stmts.Statement (at 0 1 167) None (blocking (target (at 0 1 167) "i") None (stmts.Value (tree.Binary binary_word.Plus (at 0 1 173) (plain (at 0 1 171) "i") (plain (at 0 1 175) "k")))) ∷ [])) None)))) ∷ []) None ∷ []
+
+t67_seen : seen_in (Listed []) (Listed []) (elaborated t67 [] None) 23 ≡ Ran (record { log = []; wave = lines ("$timescale 1ns $end" ∷ "$scope module t $end" ∷ "$var reg 4 ! a [3:0] $end" ∷ "$var reg 32 \" i $end" ∷ "$upscope $end" ∷ "$enddefinitions $end" ∷ "#0" ∷ "$dumpvars" ∷ "b0 !" ∷ "b1 \"" ∷ "$end" ∷ []); outcome = Done; time = 0; steps = 20; race = Some (1, at 0 1 34) })
+unfolding symbols_of word_of
+t67_seen = refl
+
+-- module t; localparam string a = b, b = a; endmodule
+abbrev t68 : List Description
+t68 = module_ (at 0 1 1) life.Unwritten (name (at 0 1 8) "t") None [] (items.Param (param param_word.Localparam (types.Written (types.Text (at 0 1 22))) (value (name (at 0 1 29) "a") (plain (at 0 1 33) "b") ∷ value (name (at 0 1 36) "b") (plain (at 0 1 40) "a") ∷ [])) ∷ []) None ∷ []
+
+t68_broken : broken t68 [] None ≡ Some (fault 11 0 1 33)
+unfolding symbols_of word_of
+t68_broken = refl
+
+-- module t; localparam a = {b{1'b1}}, b = a; endmodule
+abbrev t69 : List Description
+t69 = module_ (at 0 1 1) life.Unwritten (name (at 0 1 8) "t") None [] (items.Param (param param_word.Localparam types.Unwritten (value (name (at 0 1 22) "a") (tree.Repeat (at 0 1 26) (plain (at 0 1 27) "b") (at 0 1 28) (expressions (number (at 0 1 29) "1'b1" ∷ []))) ∷ value (name (at 0 1 37) "b") (plain (at 0 1 41) "a") ∷ [])) ∷ []) None ∷ []
+
+t69_broken : broken t69 [] None ≡ Some (fault 11 0 1 26)
+unfolding symbols_of word_of
+t69_broken = refl
