@@ -37,7 +37,7 @@ use Rattle.sv_names.specs.declared.typed.Begin.{Begin}
 use Rattle.sv_names.specs.Checked.{both, ◌▷◌, given, broken_at, rule, fine, ◌where_also◌, only, also_broken}
 use Rattle.sv_names.specs.Types.{Path, int_type, longint_type, is_container, is_fixed, is_sync, is_dynamic, same_type, item_of, data_of, plain_of}
 use Rattle.sv_names.specs.Hoisted.{pure, mapped, paired, three, in_row, if_any, result_of}
-use Rattle.sv_names.specs.Named.{Around, class_in, in_known, is_derived, in_turn, behind}
+use Rattle.sv_names.specs.Named.{Around, class_in, in_known, can_be_derived, in_turn, behind}
 use Rattle.sv_names.specs.Values.{value_typed, assigned, exactly, alone}
 use Rattle.sv_names.specs.Operators.{kind_of, binary_of, ticks_in, literal_typed}
 use Rattle.sv_names.specs.Selects.{container_of}
@@ -90,9 +90,13 @@ abbrev pub assign_form : Option Amount → Hoisted (List Lvalue) → Hoisted fla
 assign_form None ls e = paired form.Assign ls e
 assign_form (Some d) ls e = three (λ x a v. form.AssignAfter x v a d.in_ticks) ls d.amount e
 
+-- a container becomes a copy of another
+abbrev pub copied_into : Typed → Hoisted flat.Expr → Hoisted Form
+copied_into t e = paired (λ x y. form.CopyContainer (container_of x) (container_of y)) t.code e
+
 -- E42: a container is not assigned after a delay
 abbrev pub copy_form : Option Amount → Typed → Hoisted flat.Expr → Checked (Hoisted Form)
-copy_form None t e = Good (paired (λ x y. form.CopyContainer (container_of x) (container_of y)) t.code e)
+copy_form None t e = Good (copied_into t e)
 copy_form (Some d) t e = broken_at 42 t.at
 
 -- a value for a target: a container is copied, all else is written
@@ -155,7 +159,7 @@ new_given ar d at ss as' =
 
 -- whether `new h` of the second class fits a variable of the first
 abbrev pub copied : Around → Ty → Ty → Bool
-copied ar (Class p) (Class q) = is_derived ar.classes q p
+copied ar (Class p) (Class q) = can_be_derived ar.classes q p
 copied ar t u = false
 
 -- E16: `new h` of a reference (8.12)
@@ -366,8 +370,14 @@ initial_given ar at t (tree_stmt.Value e) =
 initial_given ar at t (tree_stmt.New p a) = new_at_opening ar at t p (actual_args ar a)
 initial_given ar at t i = broken_at 25 (place_of_init i) where_also only (init_given ar None (at_name at t) i)
 
+-- E25: `new[n]` and `new h` are made at no opening, whatever the type
+abbrev pub not_at_opening : Init → Checked (Unit {0})
+not_at_opening (tree_stmt.Copy at n) = broken_at 25 at
+not_at_opening (tree_stmt.Array at n old) = broken_at 25 at
+not_at_opening i = fine
+
 -- the initializer of a static variable; it breaks rules beside its type
 abbrev pub initial_of : Around → Place → Checked Ty → Option Init → Checked (Option Initial)
 initial_of ar at t None = given (λ x. None) t
 initial_of ar at (Good t) (Some i) = given Some (initial_given (at_opening ar) at t i)
-initial_of ar at (Broken f) (Some i) = also_broken f (init_alone (at_opening ar) i)
+initial_of ar at (Broken f) (Some i) = also_broken f (init_alone (at_opening ar) i where_also not_at_opening i)

@@ -1,5 +1,5 @@
 -- Calls of subroutines, of methods and of `$cast` (IEEE 1800-2017, 8, 13 and 15).
-use Rattle.std.specs.Prelude.{ℕ, suc, Bool, true, false, not, ◌&&◌, ◌||◌, List, [], ◌∷◌, length, Option, Some, None, if◌then◌else◌, nat_lt, flat_map, ◌+◌}
+use Rattle.std.specs.Prelude.{ℕ, suc, Bool, true, false, not, ◌&&◌, ◌||◌, List, [], ◌∷◌, length, Option, Some, None, if◌then◌else◌, nat_lt, map, ◌++◌, ◌+◌}
 use Rattle.sv_value.specs.declared.place.Place.{Place}
 use Rattle.sv_value.specs.declared.val.Wanted.{Wanted}
 use Rattle.sv_value.specs.declared.val.Wanted.TheVariants as wanted
@@ -10,6 +10,7 @@ use Rattle.sv_flat.specs.declared.call.CallForm.{CallForm}
 use Rattle.sv_flat.specs.declared.call.CallForm.TheVariants as call
 use Rattle.sv_flat.specs.declared.target.Lvalue.{Lvalue}
 use Rattle.sv_flat.specs.Expr as flat
+use Rattle.sv_tree.specs.declared.word.Name.{Name}
 use Rattle.sv_tree.specs.declared.word.Direction.{Direction}
 use Rattle.sv_tree.specs.declared.word.Direction.TheVariants as direction
 use Rattle.sv_names.specs.declared.typed.How.TheVariants.{Statement as By_statement}
@@ -24,14 +25,16 @@ use Rattle.sv_names.specs.declared.named.Formal.{Formal}
 use Rattle.sv_names.specs.declared.named.Callee.{Callee}
 use Rattle.sv_names.specs.declared.scope.Scope.{Scope}
 use Rattle.sv_names.specs.declared.named.Known.{Known}
+use Rattle.sv_names.specs.declared.named.Kind.{Kind}
+use Rattle.sv_names.specs.declared.named.Kind.TheVariants.{Item as Of_item}
 use Rattle.sv_names.specs.declared.named.Named.{Named}
 use Rattle.sv_names.specs.declared.named.Named.TheVariants.{Constant}
 use Rattle.sv_names.specs.declared.named.Protection.{Protection}
 use Rattle.sv_names.specs.declared.named.Protection.TheVariants.{Open, Local as Local_to_class, Protected}
-use Rattle.sv_names.specs.Checked.{both, ◌▷◌, given, broken_at, rule, fine, ◌where_also◌, also_broken, only}
-use Rattle.sv_names.specs.Types.{Path, int_type, is_array, is_integral, is_text, is_class, is_null, is_enum, same_type, same_enum, item_of, key_of, plain_of, data_of, message_type, integral_or, same_path, same_bytes, as_type}
+use Rattle.sv_names.specs.Checked.{same_place, both, ◌▷◌, given, broken_at, rule, fine, ◌where_also◌, also_broken, only}
+use Rattle.sv_names.specs.Types.{Path, int_type, is_array, is_integral, is_text, is_class, is_null, is_enum, same_type, item_of, key_of, plain_of, data_of, message_type, integral_or, same_path, same_bytes, as_type}
 use Rattle.sv_names.specs.Hoisted.{pure, mapped, paired, three, in_row, result_of}
-use Rattle.sv_names.specs.Named.{Around, class_in, is_derived, in_turn}
+use Rattle.sv_names.specs.Named.{Around, class_in, can_be_derived, in_turn}
 use Rattle.sv_names.specs.Values.{value_typed, constant_vector, assigned, exactly, alone, number_index, one_item}
 use Rattle.sv_names.specs.Selects.{container_of, key_for}
 use Rattle.sv_names.specs.Targets.{Spot, lvalues, takes, read_of, beside, hidden_in_target}
@@ -70,7 +73,7 @@ is_within ar Protected p = derived_class ar.class
   where
     derived_class : Option Path → Bool
     derived_class None = false
-    derived_class (Some q) = is_derived ar.classes q p
+    derived_class (Some q) = can_be_derived ar.classes q p
 
 -- E37: a member is named where it may not be
 abbrev pub may_be_named : Around → Protection → Path → Place → Checked (Unit {0})
@@ -114,9 +117,18 @@ argument ar direction.Input t n a = input_argument ar a.at t (a.value n)
 argument ar direction.Output t n a = both t (target_argument n a) ▷ (λ p. written_argument ar false a.at p.0 p.1)
 argument ar direction.Inout t n a = both t (target_argument n a) ▷ (λ p. written_argument ar true a.at p.0 p.1)
 
+-- whether an argument is written
+abbrev pub is_output : Direction → Bool
+is_output direction.Input = false
+is_output d = true
+
+-- what an argument is where it is left out; a default is constant, so it is no target of an output
+abbrev pub usual_value : Formal → Option (Checked Typed)
+usual_value f = if is_output f.direction then None else f.default
+
 -- E31: too few arguments
 abbrev pub left_out : Around → Place → Formal → Checked (Hoisted Argument)
-left_out ar at f = found f.default
+left_out ar at f = found (usual_value f)
   where
     found : Option (Checked Typed) → Checked (Hoisted Argument)
     found None = broken_at 31 at
@@ -180,7 +192,7 @@ subroutine_called ar at is_value c o direct as' =
     given (λ p. A_call (call_form ar c o direct p.0) p.1) (both (arguments ar at 0 c.formals as') c.result)
     where_also call_stands ar at
     where_also rule 32 at (is_value && gives_nothing c.result)
-    where_also rule 27 at (ar.may_not_wait && c.is_task && not is_value)
+    where_also rule 27 at (ar.may_not_wait && c.is_task)
 
 -- ---- calls of methods of the language
 
@@ -194,36 +206,39 @@ abbrev pub exists_expr : flat.Expr → flat.Expr → flat.Expr
 exists_expr (flat.Field p t e) i = flat.Exists (Some p) e i
 exists_expr e i = flat.Exists None e i
 
--- an item of the enum, with its value
-abbrev pub with_item : Ty → Known → List NamedItem → List NamedItem
-with_item t k rest = found k.value
-  where
-    of_constant : Typed → List NamedItem
-    of_constant c = if same_enum t c.ty then record { value = constant_vector c; name = k.name.text } ∷ rest else rest
+-- whether it is an item of the enum with this first token
+abbrev pub is_item_at : Place → Kind → Bool
+is_item_at at (Of_item p) = same_place at p
+is_item_at at k = false
 
-    found : Checked Named → List NamedItem
-    found (Good (Constant c p)) = of_constant c
-    found c = rest
+-- the value of an item
+abbrev pub item_named : Name → Named → List NamedItem
+item_named n (Constant c p) = record { value = constant_vector c; name = n.text } ∷ []
+item_named n x = []
 
--- the items of an enum among declarations
-abbrev pub items_known : Ty → List Known → List NamedItem
-items_known t [] = []
-items_known t (k ∷ ks) = with_item t k (items_known t ks)
+-- the items of an enum among declarations, with their values
+abbrev pub items_known : Place → List Known → Checked (List NamedItem)
+items_known at [] = Good []
+items_known at (k ∷ ks) =
+    if is_item_at at k.kind then given (λ p. item_named k.name p.0 ++ p.1) (both k.value (items_known at ks))
+    else items_known at ks
 
--- the items of an enum in its own scope
-abbrev pub in_scope : Path → Ty → Scope → List NamedItem
-in_scope p t s = if same_path p s.path then items_known t s.known else []
+-- those in its own scope
+abbrev pub items_in_scopes : Path → Place → List Scope → Checked (List NamedItem)
+items_in_scopes p at [] = Good []
+items_in_scopes p at (s ∷ ss) =
+    if same_path p s.path then given (λ q. q.0 ++ q.1) (both (items_known at s.known) (items_in_scopes p at ss))
+    else items_in_scopes p at ss
 
 -- the items of an enum, with their values
-abbrev pub enum_items : Around → Ty → List NamedItem
+abbrev pub enum_items : Around → Ty → Checked (List NamedItem)
 enum_items ar (Enum p at i b w) =
-    first_of (flat_map (in_scope p (Enum p at i b w)) ar.scopes)
-    (flat_map (λ k. in_scope p (Enum p at i b w) k.scope) ar.classes)
+    first_of (items_in_scopes p at ar.scopes) (items_in_scopes p at (map (λ k. k.scope) ar.classes))
   where
-    first_of : List NamedItem → List NamedItem → List NamedItem
-    first_of [] bs = bs
-    first_of (a ∷ as') bs = a ∷ as'
-enum_items ar t = []
+    first_of : Checked (List NamedItem) → Checked (List NamedItem) → Checked (List NamedItem)
+    first_of (Good []) bs = bs
+    first_of as' bs = as'
+enum_items ar t = Good []
 
 -- a method with one argument
 abbrev pub one_arg : List Arg → (Arg → Checked Called) → Checked Called
@@ -326,7 +341,7 @@ acted ar pe Methods.Put_keys g s as' = given (λ n. A_call (paired call.PutKeys 
 acted ar pe (Methods.Get_keys waits) g s as' =
     given (λ n. A_call (paired (λ x y. call.GetKeys x y waits) s.code n) (type_given g)) (keys_given ar as')
 acted ar pe Methods.Name g e as' =
-    Good (An_operator (value_typed Text pe e.is_constant (mapped (flat.Name (enum_items ar e.ty)) (alone e))))
+    given (λ is. An_operator (value_typed Text pe e.is_constant (mapped (flat.Name is) (alone e)))) (enum_items ar e.ty)
 acted ar pe Methods.Length g t as' = Good (An_operator (value_typed int_type pe t.is_constant (mapped flat.Length t.code)))
 acted ar pe Methods.Triggered g e as' = Good (An_operator (value_typed (type_given g) pe false (mapped flat.Triggered e.code)))
 

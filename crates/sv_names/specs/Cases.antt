@@ -1,5 +1,5 @@
 -- `case`, its subject and its labels (IEEE 1800-2017, 12.5).
-use Rattle.std.specs.Prelude.{ℕ, ◌+◌, Bool, true, false, not, ◌&&◌, ◌||◌, List, [], ◌∷◌, ◌++◌, Option, Some, None, if◌then◌else◌, map, max, length}
+use Rattle.std.specs.Prelude.{ℕ, ◌+◌, Bool, true, false, ◌&&◌, ◌||◌, List, [], ◌∷◌, ◌++◌, Option, Some, None, if◌then◌else◌, map, max, length}
 use Rattle.sv_value.specs.declared.place.Place.{Place}
 use Rattle.sv_value.specs.declared.number.RoutineId.{RoutineId}
 use Rattle.sv_value.specs.declared.operator.CaseKind.{CaseKind}
@@ -18,7 +18,7 @@ use Rattle.sv_names.specs.declared.checked.Checked.TheVariants.{Good, Broken}
 use Rattle.sv_names.specs.declared.ty.Ty.{Ty}
 use Rattle.sv_names.specs.declared.hoisted.Hoisted.{Hoisted}
 use Rattle.sv_names.specs.declared.typed.Typed.{Typed}
-use Rattle.sv_names.specs.Checked.{both, ◌▷◌, given, broken_at, rule, fine, ◌where_also◌, all, only, also_broken}
+use Rattle.sv_names.specs.Checked.{both, ◌▷◌, given, broken_at, only, also_broken}
 use Rattle.sv_names.specs.Types.{is_integral, is_text, is_reference, width_of_type, sign_of_type}
 use Rattle.sv_names.specs.Hoisted.{mapped, paired, in_row}
 use Rattle.sv_names.specs.Named.{Around, in_turn, behind}
@@ -47,15 +47,22 @@ abbrev pub may_be_subject : Place → Typed → Checked Typed
 may_be_subject at t =
     one_item t ▷ (λ x. if is_integral x.ty || is_text x.ty || is_reference x.ty then Good x else broken_at 15 at)
 
--- a label has a type that the `case` compares
-abbrev pub label_stands : Around → Ty → Placed → Checked (Unit {0})
-label_stands ar t p = rule 15 p.0 (not (compares ar t p.1.ty))
+-- the type of the subject, where it breaks no rule
+abbrev pub subject_type : Checked Typed → Option Ty
+subject_type (Good t) = Some t.ty
+subject_type (Broken f) = None
+
+-- E42, E15: a label has a type that the `case` compares with that of its subject
+abbrev pub label_of : Around → Option Ty → Place → Typed → Checked Typed
+label_of ar None at x = one_item x
+label_of ar (Some t) at x = one_item x ▷ (λ y. if compares ar t y.ty then Good y else broken_at 15 at)
 
 -- the labels of an item
-abbrev pub labels_in : Around → tree.Exprs → Checked (List Placed)
-labels_in ar tree.NoExpr = Good []
-labels_in ar (tree.AndExpr e es) =
-    in_turn (expr ar e) (λ x n. given (λ p. (place_of e, p.0) ∷ p.1) (both (x ▷ one_item) (labels_in (behind n ar) es)))
+abbrev pub labels_in : Around → Option Ty → tree.Exprs → Checked (List Placed)
+labels_in ar t tree.NoExpr = Good []
+labels_in ar t (tree.AndExpr e es) =
+    in_turn (expr ar e) (λ x n.
+    given (λ p. (place_of e, p.0) ∷ p.1) (both (x ▷ label_of ar t (place_of e)) (labels_in (behind n ar) t es)))
 
 -- which bits are ignored: of `case`, `casez` or `casex` (12.5.1)
 abbrev pub case_of : CaseWord → CaseKind
@@ -69,12 +76,6 @@ case_of case_word.X = case_kind.X
 abbrev pub Labels : Type 0
 Labels = Option (List Placed)
 
--- E15: the labels of all items
-abbrev pub label_rules : Around → Ty → List Labels → Checked (Unit {0})
-label_rules ar t [] = fine
-label_rules ar t (None ∷ ls) = label_rules ar t ls
-label_rules ar t (Some ps ∷ ls) = all (label_stands ar t) ps where_also label_rules ar t ls
-
 -- how many hidden variables labels take
 abbrev pub hidden_of_labels : List Placed → ℕ
 hidden_of_labels [] = 0
@@ -86,10 +87,10 @@ and_labels (Good ps) go = given (λ ls. Some ps ∷ ls) (go (hidden_of_labels ps
 and_labels (Broken f) go = also_broken f (only (go 0))
 
 -- the labels of each item
-abbrev pub all_labels : Around → CaseItems → Checked (List Labels)
-all_labels ar tree_stmt.NoCaseItem = Good []
-all_labels ar (tree_stmt.Labels es x rest) = and_labels (labels_in ar es) (λ n. all_labels (behind n ar) rest)
-all_labels ar (tree_stmt.Default x rest) = given (λ ls. None ∷ ls) (all_labels ar rest)
+abbrev pub all_labels : Around → Option Ty → CaseItems → Checked (List Labels)
+all_labels ar t tree_stmt.NoCaseItem = Good []
+all_labels ar t (tree_stmt.Labels es x rest) = and_labels (labels_in ar t es) (λ n. all_labels (behind n ar) t rest)
+all_labels ar t (tree_stmt.Default x rest) = given (λ ls. None ∷ ls) (all_labels ar t rest)
 
 -- the width in which all are compared
 abbrev pub widest : ℕ → List Placed → ℕ
@@ -154,11 +155,14 @@ heads_of x ls =
     compared_as (widest (width_of_type x.ty) (labels_of ls)) (all_signed (sign_of_type x.ty) (labels_of ls)) in
     paired (λ e es. (e, es)) (f x) (in_row (labelled f ls))
 
--- E15: the subject and the labels of a `case`
+-- the labels beside the subject
+abbrev pub with_labels_in : Around → Checked Typed → CaseItems → Checked (Hoisted Heads)
+with_labels_in ar x is = given (λ p. heads_of p.0 p.1) (both x (all_labels ar (subject_type x) is))
+
+-- the subject and the labels of a `case`
 abbrev pub case_heads : Around → tree.Expr → CaseItems → Checked (Hoisted Heads)
 case_heads ar e is =
-    in_turn (expr ar e) (λ x n. both (x ▷ may_be_subject (place_of e)) (all_labels (behind n ar) is))
-    ▷ (λ p. Good (heads_of p.0 p.1) where_also label_rules ar p.0.ty p.1)
+    in_turn (expr ar e) (λ x n. with_labels_in (behind n ar) (x ▷ may_be_subject (place_of e)) is)
 
 -- a `case` of the flat design
 abbrev pub case_code : Place → CaseWord → CaseItems → Hoisted Heads → List Code → Code

@@ -23,7 +23,7 @@ use Rattle.sv_names.specs.Types.{Path, same_type, same_flag, same_bytes, size_of
 use Rattle.sv_names.specs.Named.{Around, line_of, method_in, in_known}
 use Rattle.sv_names.specs.Entries.{Entry, Declared as Declaration, A_class, An_announcement, twice, class_entries, is_constructor, pure_method}
 use Rattle.sv_names.specs.Scopes.{known_stand}
-use Rattle.sv_names.specs.Groups.{Head, base_stands, not_cyclic, in_class}
+use Rattle.sv_names.specs.Groups.{Head, base_rules, in_class}
 use Rattle.sv_names.specs.Code.{object_at, home_of}
 use Rattle.sv_names.specs.Assignments.{initial_of}
 use Rattle.sv_names.specs.Blocks.{end_label}
@@ -210,5 +210,5 @@ class_parts ar k c =
     where_also class_stands i k c
 
 -- E6, E33: the names of the bases of classes
-abbrev pub bases_stand : List Entry → List Entry → List Head → Checked (Unit {0})
-bases_stand own outer hs = all (λ h. base_stands own outer h.tree.base where_also not_cyclic hs h) hs
+abbrev pub bases_stand : List Head → Checked (Unit {0})
+bases_stand hs = all (base_rules hs) hs

@@ -32,7 +32,7 @@ use Rattle.sv_names.specs.declared.named.Named.TheVariants.{Variable, Net, Input
 use Rattle.sv_names.specs.declared.typed.Begin.{Begin}
 use Rattle.sv_names.specs.declared.typed.Begin.TheVariants.{Variable as A_variable, Net as A_net, Value as A_value}
 use Rattle.sv_names.specs.Checked.{both, ◌▷◌, given, broken_at, rule, fine, ◌where_also◌, only}
-use Rattle.sv_names.specs.Types.{Path, same_bytes, among}
+use Rattle.sv_names.specs.Types.{Path, is_container, same_bytes, among}
 use Rattle.sv_names.specs.Hoisted.{mapped, paired, in_row}
 use Rattle.sv_names.specs.Named.{Around, found, in_known, kind_stands, is_object_kind}
 use Rattle.sv_names.specs.Values.{assigned}
@@ -40,7 +40,7 @@ use Rattle.sv_names.specs.Targets.{Spot, lvalue, type_of_target}
 use Rattle.sv_names.specs.Things.{object_typed}
 use Rattle.sv_names.specs.Expressions.{expr, target, target_in}
 use Rattle.sv_names.specs.Code.{Numbered, Code, single, as_routine}
-use Rattle.sv_names.specs.Assignments.{place_of_lval}
+use Rattle.sv_names.specs.Assignments.{copied_into, place_of_lval}
 use Rattle.sv_names.specs.Watched.{operands_of, body_from, object_of, on_change}
 use Rattle.sv_names.specs.Clockings.{times_in}
 use Rattle.sv_names.specs.Writers.{with_new}
@@ -103,22 +103,27 @@ assigning ar at k c = record { objects = []; make = λ n. made n (c.make n) ((as
     made : ℕ → List Stmt × List Routine → RoutineId × List Routine → Process × List Routine
     made n p q = (process_of ar at k (watched_by n p) q.0, q.1)
 
--- a process that assigns to a target
-abbrev pub made_of : Around → Place → ProcessKind → List Spot → Hoisted flat.Expr → Made
-made_of ar at k ss e =
+-- a process that writes its targets, and drives the nets among them
+abbrev pub writing : Around → Place → ProcessKind → List Spot → Hoisted flat.Expr → Made
+writing ar at k ss e =
     record {
       drives = nets_driven [] ss;
       make = λ before. assigning ar at k (single at (paired form.Assign (in_row (drivers ar before ss)) e));
     }
 
--- E42: no container is assigned so
-abbrev pub continuous_value : Around → Place → List Spot → Typed → Checked (Hoisted flat.Expr)
-continuous_value ar pv ss t = assigned ar (type_of_target ss) pv t
+-- a process that copies a container
+abbrev pub copying : Around → Place → ProcessKind → Typed → Hoisted flat.Expr → Made
+copying ar at k t e = record { drives = []; make = λ before. assigning ar at k (single at (copied_into t e)) }
+
+-- a process that assigns to a target
+abbrev pub made_of : Around → Place → ProcessKind → List Spot → Hoisted flat.Expr → Made
+made_of ar at k (s ∷ []) e = if is_container s.1.ty then copying ar at k s.1 e else writing ar at k (s ∷ []) e
+made_of ar at k ss e = writing ar at k ss e
 
 -- E16, E17: a target that gets a value again and again
 abbrev pub continuous : Around → Place → ProcessKind → Checked (List Spot) → Place → Checked Typed → Checked Made
 continuous ar at k target pv value =
-    both target value ▷ (λ p. given (made_of ar at k p.0) (continuous_value ar pv p.0 p.1))
+    both target value ▷ (λ p. given (made_of ar at k p.0) (assigned ar (type_of_target p.0) pv p.1))
 
 -- an `assign` (10.3.2)
 abbrev pub assign_made : Around → tree_unit.AssignItem → Checked Made

@@ -27,7 +27,7 @@ use Rattle.sv_names.specs.declared.ty.Ty.TheVariants.{Vector as Bit_vector, Enum
 use Rattle.sv_names.specs.declared.typed.Typed.{Typed}
 use Rattle.sv_names.specs.declared.named.Named.{Named}
 use Rattle.sv_names.specs.declared.named.Named.TheVariants.{Variable, Net, Input, Local, Property, StaticProperty, Constant, TypeName, ClassName, Other}
-use Rattle.sv_names.specs.declared.named.Kind.TheVariants.{Constant as Of_constant}
+use Rattle.sv_names.specs.declared.named.Kind.TheVariants.{Parameter as Of_parameter}
 use Rattle.sv_names.specs.Checked.{both, ◌▷◌, given, broken_at, fine, ◌where_also◌, only, unless}
 use Rattle.sv_names.specs.Types.{Path, integral, integral_or, is_integral, is_four_state, width_of_type, plain_vector, int_type, whole, as_element, as_key}
 use Rattle.sv_names.specs.Hoisted.{pure}
@@ -35,7 +35,7 @@ use Rattle.sv_names.specs.Named.{Around, meaning, kind_stands, is_type_kind, now
 use Rattle.sv_names.specs.Values.{value_typed, nowhere, vector_of, constant, constant_number, count_from, not_too_wide, exactly}
 use Rattle.sv_names.specs.Operators.{vector_word_four_state, atom_type}
 use Rattle.sv_names.specs.Expressions.{expr}
-use Rattle.sv_names.specs.Entries.{Declared, Entry, Source, Own, Given, A_variable, A_local, An_argument, A_given, A_net, A_port, A_property, A_static_property, A_parameter, A_type, An_item, A_class, The_object_of}
+use Rattle.sv_names.specs.Entries.{Declared, Entry, Source, Own, Given, A_variable, A_local, An_argument, A_given, A_net, A_port, A_property, A_static_property, A_parameter, A_type, An_item, A_class, The_object_of, place_of_type}
 use Rattle.sv_names.specs.Rounds.{place_of_source}
 
 -- ---- types
@@ -62,8 +62,9 @@ type_named at (TypeName t) = Good t
 type_named at (ClassName p) = Good (Class p)
 type_named at n = broken_at 7 at
 
--- E7: the base of an enum is integral and no enum
+-- E7: the base of an enum is integral and no enum; an enum has bits
 abbrev pub enum_on : Path → Place → Place → Ty → Checked Ty
+enum_on p at pb (Bit_vector i None w) = Good (Enum p at i (whole i.width) w)
 enum_on p at pb (Bit_vector i b w) = Good (Enum p at i b w)
 enum_on p at pb t = broken_at 7 pb
 
@@ -75,22 +76,9 @@ without_items p is ar =
         path = p;
         class = None;
         enters = false;
-        known = map {A = EnumItem} (λ i. record { name = i.name; kind = Of_constant; value = broken_at 7 nowhere_yet }) is;
+        known = map {A = EnumItem} (λ i. record { name = i.name; kind = Of_parameter; value = broken_at 7 nowhere_yet }) is;
       } ∷ ar.scopes;
     }
-
--- the first token of a type
-abbrev pub place_of_type : WrittenType → Place
-place_of_type (tree_type.WrittenType.Vector at w s r) = at
-place_of_type (tree_type.Atom at w s) = at
-place_of_type (tree_type.Text at) = at
-place_of_type (tree_type.Event at) = at
-place_of_type (tree_type.Semaphore at) = at
-place_of_type (tree_type.Mailbox at) = at
-place_of_type (tree_type.MailboxOf at t) = at
-place_of_type (tree_type.Named n) = n.at
-place_of_type (tree_type.Enum at is) = at
-place_of_type (tree_type.EnumOf at b is) = at
 
 -- E43: what an array or a mailbox holds, and the keys of an array
 abbrev pub may_be_item : Place → Ty → Checked Element

@@ -22,7 +22,7 @@ use Rattle.sv_names.specs.declared.typed.Typed.{Typed}
 use Rattle.sv_names.specs.declared.named.Protection.{Protection}
 use Rattle.sv_names.specs.declared.named.Protection.TheVariants.{Open, Local as Local_to_class, Protected}
 use Rattle.sv_names.specs.declared.named.Kind.{Kind}
-use Rattle.sv_names.specs.declared.named.Kind.TheVariants.{Object as Of_object, Constant as Of_constant, TypeName as Of_type, Subroutine as Of_subroutine, Another as Of_another}
+use Rattle.sv_names.specs.declared.named.Kind.TheVariants.{Object as Of_object, Parameter as Of_parameter, Item as Of_item, TypeName as Of_type, Subroutine as Of_subroutine, Another as Of_another}
 use Rattle.sv_names.specs.Checked.{rule, fine, ◌where_also◌}
 use Rattle.sv_names.specs.Types.{Path, same_bytes}
 
@@ -57,10 +57,23 @@ pub data Declared : Type 0 where
   -- a unit, an instance or a block
   Another : Declared
 
+-- the first token of a type
+abbrev pub place_of_type : WrittenType → Place
+place_of_type (tree_type.WrittenType.Vector at w s r) = at
+place_of_type (tree_type.Atom at w s) = at
+place_of_type (tree_type.Text at) = at
+place_of_type (tree_type.Event at) = at
+place_of_type (tree_type.Semaphore at) = at
+place_of_type (tree_type.Mailbox at) = at
+place_of_type (tree_type.MailboxOf at t) = at
+place_of_type (tree_type.Named n) = n.at
+place_of_type (tree_type.Enum at is) = at
+place_of_type (tree_type.EnumOf at b is) = at
+
 -- the kind of what is declared
 abbrev pub kind_of : Declared → Kind
-kind_of (A_parameter i s) = Of_constant
-kind_of (An_item w v n) = Of_constant
+kind_of (A_parameter i s) = Of_parameter
+kind_of (An_item w v n) = Of_item (place_of_type w)
 kind_of (A_type w) = Of_type
 kind_of (A_class p) = Of_type
 kind_of An_announcement = Of_type
@@ -145,7 +158,7 @@ items_in_dimension d = []
 abbrev pub declarator_entries : (WrittenType → Option Dimension → Declared) → WrittenType → List Declarator → List Entry
 declarator_entries f w [] = []
 declarator_entries f w (x ∷ xs) =
-    items_in_dimension x.dimension ++ entry x.name (f w x.dimension) ∷ declarator_entries f w xs
+    entry x.name (f w x.dimension) ∷ items_in_dimension x.dimension ++ declarator_entries f w xs
 
 -- whether a variable or subroutine is automatic
 abbrev pub is_automatic_life : Bool → Life → Bool

@@ -1,7 +1,8 @@
 -- Expressions and targets over what their names stand for (IEEE 1800-2017, 11): the table of all forms.
-use Rattle.std.specs.Prelude.{ℕ, Bool, true, false, not, ◌||◌, List, [], ◌∷◌, ◌++◌, Option, Some, None, if◌then◌else◌, codes, length}
+use Rattle.std.specs.Prelude.{ℕ, Bool, true, false, not, ◌||◌, List, [], ◌∷◌, ◌++◌, Option, Some, None, if◌then◌else◌, codes, length, pos, option_map}
 use Rattle.sv_value.specs.declared.place.Place.{Place}
 use Rattle.sv_value.specs.Vector.{vector, symbols_of}
+use Rattle.sv_flat.specs.declared.target.Part.{Part}
 use Rattle.sv_flat.specs.Expr as flat
 use Rattle.sv_tree.specs.declared.word.Name.{Name}
 use Rattle.sv_tree.specs.declared.expr.Root.TheVariants as root
@@ -16,7 +17,7 @@ use Rattle.sv_names.specs.declared.checked.Fault.{Fault}
 use Rattle.sv_names.specs.declared.checked.Checked.{Checked}
 use Rattle.sv_names.specs.declared.checked.Checked.TheVariants.{Good, Broken}
 use Rattle.sv_names.specs.declared.ty.Ty.{Ty}
-use Rattle.sv_names.specs.declared.ty.Ty.TheVariants.{Vector as Bit_vector, Text, Event, Class, Semaphore, Mailbox, Null}
+use Rattle.sv_names.specs.declared.ty.Ty.TheVariants.{Vector as Bit_vector, Text, Event, Class, Semaphore, Mailbox, Null, Nothing}
 use Rattle.sv_names.specs.declared.typed.Typed.{Typed}
 use Rattle.sv_names.specs.declared.named.Named.{Named}
 use Rattle.sv_names.specs.declared.named.Named.TheVariants.{TypeName, ClassName}
@@ -26,12 +27,12 @@ use Rattle.sv_names.specs.Types.{is_integral, is_container, selectable, plain_ve
 use Rattle.sv_names.specs.Hoisted.{pure, mapped}
 use Rattle.sv_names.specs.Named.{Around, meaning, found, names_type, told_at, in_turn, behind}
 use Rattle.sv_names.specs.Values.{value_typed, number_operand, constant_count}
-use Rattle.sv_names.specs.Operators.{Placed, literal_typed, ticks_in, time_typed, unary_typed, kind_of, decides_early, binary_of, choose_of, joinable, join_of, repeat_of, cast_to, sized, vector_word_four_state, atom_type}
+use Rattle.sv_names.specs.Operators.{Placed, literal_typed, ticks_in, time_typed, unary_typed, kind_of, decides_early, binary_of, choose_of, joinable, joins, join_of, repeat_of, cast_to, sized, vector_word_four_state, atom_type}
 use Rattle.sv_names.specs.Selects.{select_of, part_select_of}
-use Rattle.sv_names.specs.Targets.{Spot, concatenated, may_begin, hidden_in_target}
+use Rattle.sv_names.specs.Targets.{Spot, concatenated, may_begin, selects_stand, hidden_in_target}
 use Rattle.sv_names.specs.Formats.{Arg, sformatf, values_stand}
 use Rattle.sv_names.specs.Calls.{Called, as_value, cast_called}
-use Rattle.sv_names.specs.Things.{Thing, A_value, Its_result, root_thing, named_thing, thing_value, after_dot, after_actuals, and_behind, dollar_in, thing_target, called_thing, hidden_before}
+use Rattle.sv_names.specs.Things.{Thing, A_value, A_subroutine, A_method, Its_result, The_signal, signal_target, root_thing, named_thing, thing_value, after_dot, after_actuals, and_behind, dollar_in, thing_target, called_thing, hidden_before}
 
 -- ---- system names
 
@@ -117,11 +118,11 @@ bits_of at t as' = of_one at as' (λ a. of_type a t)
     of_type a None = bits_of_value at a
     of_type a (Some c) = c ▷ bits_of_type at a.at
 
--- `$signed` and `$unsigned` (11.7)
+-- `$signed` and `$unsigned` change no bit (11.7)
 abbrev pub signed_as : Place → Bool → Typed → Typed
 signed_as at s t =
-    let i = integral (width_of_type t.ty) s (is_four_state t.ty) in
-    value_typed (Bit_vector i None false) at t.is_constant (mapped (flat.Convert i) t.code)
+    value_typed (plain_vector (width_of_type t.ty) s (is_four_state t.ty)) at t.is_constant
+    (mapped (flat.Convert (integral (width_of_type t.ty) s true)) t.code)
 
 -- `$clog2` (20.8.1)
 abbrev pub logarithm : Place → Typed → Typed
@@ -162,6 +163,11 @@ cast_by_name ar pe pn at (ClassName k) e = e ▷ cast_to ar (Class k) pe at
 cast_by_name ar pe pn at n e =
     both (named_thing ar pn n ▷ thing_value ar pn ▷ constant_count pn) e ▷ (λ p. sized pe at p.0 p.1)
 
+-- a name that breaks a rule hides nothing of what stands behind it
+abbrev pub named_cast : Around → Place → Place → Place → Checked Named → Checked Typed → Checked Typed
+named_cast ar pe pn at (Good m) e = cast_by_name ar pe pn at m e
+named_cast ar pe pn at (Broken f) e = also_broken f (only e)
+
 -- a cast by what it is to
 abbrev pub cast_of : Around → CastType → Place → Place → Checked Typed → Checked Typed
 cast_of ar (cast.Vector p w) pe at e = e ▷ cast_to ar (plain_vector 1 false (vector_word_four_state w)) pe at
@@ -170,27 +176,51 @@ cast_of ar (cast.Text p) pe at e = e ▷ cast_to ar Text pe at
 cast_of ar (cast.Event p) pe at e = e ▷ cast_to ar Event pe at
 cast_of ar (cast.Semaphore p) pe at e = e ▷ cast_to ar Semaphore pe at
 cast_of ar (cast.Mailbox p) pe at e = e ▷ cast_to ar Mailbox pe at
-cast_of ar (cast.Named n) pe at e = both (meaning ar n) e ▷ (λ p. cast_by_name ar pe n.at at p.0 e)
+cast_of ar (cast.Named n) pe at e = named_cast ar pe n.at at (meaning ar n) e
 cast_of ar (cast.Width p text) pe at e = both (constant_count p (literal_typed p text)) e ▷ (λ q. sized pe at q.0 q.1)
 
--- a target with a select that breaks a rule still names what it writes
-abbrev pub as_selected : Typed → Typed
-as_selected t = record t { target = record t.target { is_item = t.target.is_item || is_container t.ty } }
+-- what a thing is as a target
+abbrev pub as_target : Around → Checked Thing → Option Typed
+as_target ar (Good (A_value t)) = Some t
+as_target ar (Good (Its_result c o v at)) = Some v
+as_target ar (Good (The_signal b i s at)) = Some (signal_target ar b i s at)
+as_target ar th = None
 
--- the rules on a target that has a broken select
+-- an item or a part of it, whichever
+abbrev pub as_selected : Typed → Typed
+as_selected t = record t { target = record t.target { is_item = t.target.is_item || is_container t.ty; part = Some some_bit } }
+  where
+    some_bit : Part
+    some_bit = record { width = 1; offset = pos 0; is_falling = false; index = flat.Handle None }
+
+-- whether it can be called
+abbrev pub is_callable : Checked Thing → Bool
+is_callable (Good (A_subroutine c o direct at)) = true
+is_callable (Good (A_method m o at)) = true
+is_callable (Good (Its_result c o v at)) = true
+is_callable th = false
+
+-- what a call gives, which is no target
+abbrev pub as_called : Place → Checked Thing → tree.Suffixes → Option Typed
+as_called pe th tree.NoSuffix =
+    if is_callable th then Some (value_typed Nothing pe false (pure (flat.Handle None))) else None
+as_called pe th s = None
+
+-- E11, E18, E19, E21, E26, E47: the rules on a broken target that need its name alone
 abbrev pub also_before : How → Place → Fault → Option Typed → Checked (List Spot)
 also_before h at f None = Broken f
-also_before h at f (Some t) = also_broken f (may_begin h at (as_selected t) t.target.begins)
+also_before h at f (Some t) =
+    also_broken f (may_begin h at t t.target.begins where_also selects_stand h t.target.moving)
 
 -- a target, or the rules that it breaks
 abbrev pub or_before : How → Place → Checked (List Spot) → (Unit {0} → Option Typed) → Checked (List Spot)
 or_before h at (Good ss) before = Good ss
 or_before h at (Broken f) before = also_before h at f (before tt)
 
--- the value before the first broken select
-abbrev pub if_broken : Checked Thing → Checked Thing → (Checked Thing → Option Typed) → Option Typed
-if_broken (Good (A_value t)) (Broken f) go = Some t
-if_broken th next go = go next
+-- what stands before a part that breaks a rule
+abbrev pub if_broken : Option Typed → Checked Thing → (Checked Thing → Option Typed) → Option Typed
+if_broken (Some t) (Broken f) go = Some t
+if_broken before next go = go next
 
 -- ---- the table
 
@@ -266,7 +296,16 @@ abbrev mutual
   placed ar tree.NoExpr = Good []
   placed ar (tree.AndExpr e es) =
       in_turn (expr ar e) (λ x n.
-      given (λ p. (place_of e, p.0) ∷ p.1) (both (x ▷ joinable (place_of e)) (placed (behind n ar) es)))
+      given (λ p. (place_of e, p.0) ∷ p.1)
+      (both (x ▷ joinable (place_of e)) (placed_behind (behind n ar) (x ▷ joinable (place_of e)) es)))
+
+  -- those behind the first
+  pub placed_behind : Around → (first : Checked Typed) → tree.Exprs → Checked (List Placed)
+  placed_behind ar first tree.NoExpr = Good []
+  placed_behind ar first (tree.AndExpr e es) =
+      in_turn (expr ar e) (λ x n.
+      given (λ p. (place_of e, p.0) ∷ p.1)
+      (both (x ▷ joins first (place_of e)) (placed_behind (behind n ar) first es)))
 
   -- the same, where brackets are written
   pub placed_actuals : Around → tree.Actuals → Checked (List Placed)
@@ -310,18 +349,19 @@ abbrev mutual
       th (λ _. only (both (expr (with_dollar (dollar_in th) ar) l) (expr (with_dollar (dollar_in th) ar) r))))
       rest
 
-  -- what stands before the first select that breaks a rule
+  -- a target as far as it breaks no rule: before its first broken select, or whole
   pub before_select : Around → Place → Checked Thing → tree.Suffixes → Option Typed
-  before_select ar pe th tree.NoSuffix = None
+  before_select ar pe th tree.NoSuffix = as_target ar th
   before_select ar pe th (tree.Member n rest) = before_select ar pe (th ▷ after_dot ar pe n) rest
   before_select ar pe th (tree.Call at es rest) =
-      before_select ar pe (th ▷ after_actuals ar pe (args (behind (hidden_before th) ar) es)) rest
+      if_broken (as_called pe th rest) (th ▷ after_actuals ar pe (args (behind (hidden_before th) ar) es))
+      (λ next. before_select ar pe next rest)
   before_select ar pe th (tree.Select at i rest) =
-      if_broken th
+      if_broken (option_map as_selected (as_target ar th))
       (given A_value (th ▷ thing_value ar pe ▷ (λ t. select_of ar at (place_of i) t (expr (with_dollar (dollar_in th) ar) i))))
       (λ next. before_select ar pe next rest)
   before_select ar pe th (tree.Part at w l r rest) =
-      if_broken th
+      if_broken (option_map as_selected (as_target ar th))
       (given A_value (th ▷ thing_value ar pe ▷ (λ t.
       part_select_of w at pe (place_of l) (place_of r) t
       (expr (with_dollar (dollar_in th) ar) l) (expr (with_dollar (dollar_in th) ar) r))))

@@ -8,7 +8,7 @@ use Rattle.sv_names.specs.declared.around.ClassInfo.{ClassInfo}
 use Rattle.sv_names.specs.declared.checked.Checked.{Checked}
 use Rattle.sv_names.specs.declared.scope.Scope.{Scope}
 use Rattle.sv_names.specs.declared.named.Named.{Named}
-use Rattle.sv_names.specs.Checked.{broken_at, rule, fine}
+use Rattle.sv_names.specs.Checked.{broken_at, rule, fine, ◌where_also◌, fault_of}
 use Rattle.sv_names.specs.Types.{Path, same_path, same_bytes, among}
 use Rattle.sv_names.specs.Named.{Around, nearest, line_of}
 use Rattle.sv_names.specs.Entries.{Declared, Entry, A_class, An_announcement, class_entries, is_constructor}
@@ -22,6 +22,8 @@ pub record Head : Type 0 where
   pub path : Path
   pub tree : tree_class.Class
   pub raw : Option Path
+  -- what the name of the base breaks
+  pub stands : Checked (Unit {0})
 
 -- the class that a declaration of this name is, if it is one of this name
 abbrev pub class_of_entry : List ℕ → Entry → Option (Option Path)
@@ -63,7 +65,8 @@ base_stands own outer (Some n) = told (nearest (class_among n.text own) (class_a
 abbrev pub heads_of : Path → List Entry → List Entry → List Item → List Head
 heads_of p own outer [] = []
 heads_of p own outer (tree_item.Class c ∷ is) =
-    record { path = p ++ c.name.text ∷ []; tree = c; raw = raw_base own outer c.base } ∷ heads_of p own outer is
+    record { path = p ++ c.name.text ∷ []; tree = c; raw = raw_base own outer c.base; stands = base_stands own outer c.base }
+    ∷ heads_of p own outer is
 heads_of p own outer (i ∷ is) = heads_of p own outer is
 
 -- the base of a class
@@ -92,6 +95,10 @@ not_cyclic hs h = at_base h.tree.base
     at_base : Option Name → Checked (Unit {0})
     at_base None = fine
     at_base (Some n) = rule 33 n.at (is_cyclic hs h)
+
+-- E6, E33: what the base of a class breaks
+abbrev pub base_rules : List Head → Head → Checked (Unit {0})
+base_rules hs h = h.stands where_also not_cyclic hs h
 
 -- ---- virtual methods
 
@@ -138,11 +145,6 @@ pub record Group : Type 0 where
   pub scope : Scope
   pub classes : List ClassInfo
 
--- whether a base is written
-abbrev pub extends : Option Name → Bool
-extends None = false
-extends (Some n) = true
-
 -- a class over what is known of its members
 abbrev pub info_of : Around → List Head → List Row → ℕ → Head → ClassInfo
 info_of ar hs rs home h =
@@ -151,7 +153,7 @@ info_of ar hs rs home h =
       name = h.tree.name;
       is_virtual = h.tree.is_virtual;
       base = base_in hs h;
-      extends = extends h.tree.base;
+      base_fault = fault_of (base_rules hs h);
       scope = scope_of h.path (Some h.path) false (known_in home rs);
       slots = slots_of (length hs + 1) ar.classes hs (Some h.path);
     }

@@ -26,6 +26,7 @@ use Rattle.sv_names.specs.Named.{Around}
 use Rattle.sv_names.specs.Expressions.{expr}
 use Rattle.sv_names.specs.Entries.{Entry, entry, Source, Own, Given, A_variable, A_net, A_port, A_parameter, A_type, A_class, An_announcement, A_subroutine, A_clocking, Another, plain_routine, items_in, items_in_implied, declarator_entries, blocks, is_automatic_life}
 use Rattle.sv_names.specs.Groups.{Group, Head, heads_of, settled_group, in_group}
+use Rattle.sv_names.specs.Blocks.{scopes_made}
 
 -- ---- ports
 
@@ -250,7 +251,8 @@ pub record Inst : Type 0 where
 -- what is met on the walk
 pub data Walked : Type 0 where
   Enter : Inst → Walked
-  Meet : Inst → Item → Walked
+  -- an item, behind so many blocks of the unit
+  Meet : Inst → (blocks : ℕ) → Item → Walked
   -- the port connections of an instance in another
   Connect : Inst → Inst → List Connection → Walked
   -- the instance that passes the limit
@@ -325,6 +327,11 @@ abbrev pub counted : Place → Walk → Walk
 counted at go zero = (Pass at ∷ [], None)
 counted at go (suc n) = go n
 
+-- how many scopes an item makes in that of its unit
+abbrev pub scopes_of_item : Item → ℕ
+scopes_of_item (tree_item.Procedure p) = scopes_made p.body
+scopes_of_item i = 0
+
 module _ (units : List Description) (files : Around) where
   -- what stands around a unit
   abbrev pub around_unit : Definition → Path → Around
@@ -375,20 +382,20 @@ module _ (units : List Description) (files : Around) where
   instances_walk go i x (Some u) = if among x.of.text i.chain then stays else children go i u x.params x.list
 
   -- an item, with the instances in it
-  abbrev pub item_walk : (Inst → Walk) → Inst → Item → Walk
-  item_walk go i (tree_item.Instances x) =
-      meets (Meet i (tree_item.Instances x)) (instances_walk go i x (definition_named x.of.text units))
-  item_walk go i item = meets (Meet i item) stays
+  abbrev pub item_walk : (Inst → Walk) → Inst → (blocks : ℕ) → Item → Walk
+  item_walk go i b (tree_item.Instances x) =
+      meets (Meet i b (tree_item.Instances x)) (instances_walk go i x (definition_named x.of.text units))
+  item_walk go i b item = meets (Meet i b item) stays
 
   -- the items in source order
-  abbrev pub items_walk : (Inst → Walk) → Inst → List Item → Walk
-  items_walk go i [] = stays
-  items_walk go i (x ∷ xs) = and_then (item_walk go i x) (items_walk go i xs)
+  abbrev pub items_walk : (Inst → Walk) → Inst → (blocks : ℕ) → List Item → Walk
+  items_walk go i b [] = stays
+  items_walk go i b (x ∷ xs) = and_then (item_walk go i b x) (items_walk go i (b + scopes_of_item x) xs)
 
   -- items in source order; at an instance its own items
   abbrev pub walk : ℕ → Inst → Walk
   walk zero i = stays
-  walk (suc k) i = meets (Enter i) (items_walk (λ c. walk k c) i i.unit.element.items)
+  walk (suc k) i = meets (Enter i) (items_walk (λ c. walk k c) i 0 i.unit.element.items)
 
   -- a root
   abbrev pub root_inst : Definition → Inst

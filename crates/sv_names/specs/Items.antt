@@ -1,5 +1,5 @@
 -- What each item on the walk of the instances gives to the flat design, or the rules that it breaks.
-use Rattle.std.specs.Prelude.{ℕ, ◌+◌, Bool, true, false, not, ◌&&◌, ◌||◌, List, [], ◌∷◌, ◌++◌, Option, Some, None, if◌then◌else◌, map, flat_map, slice_get, is_some}
+use Rattle.std.specs.Prelude.{ℕ, ◌+◌, Bool, true, false, not, ◌&&◌, ◌||◌, List, [], ◌∷◌, ◌++◌, Option, Some, None, if◌then◌else◌, map, flat_map, filter, slice_get, is_some}
 use Rattle.sv_value.specs.declared.place.Place.{Place}
 use Rattle.sv_value.specs.declared.number.RoutineId.{RoutineId}
 use Rattle.sv_value.specs.declared.schedule.Side.{Side}
@@ -38,7 +38,7 @@ use Rattle.sv_names.specs.Scopes.{known_stand}
 use Rattle.sv_names.specs.Groups.{Group}
 use Rattle.sv_names.specs.Code.{Code, changed, as_routine, object_at}
 use Rattle.sv_names.specs.Assignments.{initial_of}
-use Rattle.sv_names.specs.Blocks.{end_label}
+use Rattle.sv_names.specs.Blocks.{after_scopes, end_label}
 use Rattle.sv_names.specs.Statements.{stmt, at_event, place_from}
 use Rattle.sv_names.specs.Subroutines.{MadeSubroutine, made_subroutine, nothing_before}
 use Rattle.sv_names.specs.Classes.{ClassParts, class_parts, bases_stand, announcements_stand, joined}
@@ -315,8 +315,8 @@ around_inst us files i = with_default (within_inst us files i)
 -- what is met on the walk
 abbrev pub walked_parts : List Description → Around → Walked → Checked GivenParts
 walked_parts us files (Enter i) =
-    enter_parts (around_inst us files i) i where_also bases_stand i.entries (file_entries us) i.heads
-walked_parts us files (Meet i item) = item_parts us (around_inst us files i) i item
+    enter_parts (around_inst us files i) i where_also bases_stand i.heads
+walked_parts us files (Meet i b item) = item_parts us (after_scopes b (around_inst us files i)) i item
 walked_parts us files (Connect i c cs) =
     given (λ ms. record nothing { processes = flat_map (λ m. m) ms })
     (each (port_link (around_inst us files i) c cs) (ports_of c.unit.element))
@@ -326,17 +326,21 @@ walked_parts us files (Pass at) = broken_at 44 at
 
 -- ---- the items outside units, which stand once
 
--- two units or file items are E1, two items of enums E5
-abbrev pub file_rule : Entry → ℕ
-file_rule e = found e.what
+-- whether it is no item of an enum
+abbrev pub is_no_item : Entry → Bool
+is_no_item e = found e.what
   where
-    found : Declared → ℕ
-    found (An_item w v k) = 5
-    found _ = 1
+    found : Declared → Bool
+    found (An_item w v k) = false
+    found _ = true
+
+-- E1, E5: two units or file items have one name, or an item of an enum has that of another declaration
+abbrev pub files_differ : List Entry → Checked (Unit {0})
+files_differ es = twice (λ e. 1) [] (filter is_no_item es) where_also twice (λ e. 5) [] es
 
 -- the files, and the items in them
 abbrev pub file_parts : List Description → Around → Group → List (Checked GivenParts)
 file_parts us files g =
-    (Good nothing where_also known_stand g.scope.known where_also twice file_rule [] (file_entries us)
-    where_also announcements_stand (file_entries us) where_also bases_stand (file_entries us) [] (file_heads us))
+    (Good nothing where_also known_stand g.scope.known where_also files_differ (file_entries us)
+    where_also announcements_stand (file_entries us) where_also bases_stand (file_heads us))
     ∷ map (common_parts files []) (outside us)

@@ -113,7 +113,7 @@ methods_of (MailboxOf t) = mailbox_methods
 methods_of Semaphore = semaphore_methods
 methods_of (Enum s at t b w) = (codes "name", operating Name 0 Text) ∷ []
 methods_of Text = (codes "len", operating Length 0 int_type) ∷ []
-methods_of Event = (codes "triggered", operating Triggered 0 (plain_vector 1 false true)) ∷ []
+methods_of Event = (codes "triggered", operating Triggered 0 (plain_vector 1 false false)) ∷ []
 methods_of t = []
 
 -- the method of a type by its name

@@ -1,5 +1,5 @@
 -- Typed expressions, targets, and what a name stands for where it stands.
-use Rattle.std.specs.Prelude.{ℕ, zero, suc, ◌+◌, Bool, true, false, not, ◌&&◌, ◌||◌, List, [], ◌∷◌, length, Option, Some, None, if◌then◌else◌, ◌==◌, min, ◌^◌, ◌-◌, option_map}
+use Rattle.std.specs.Prelude.{ℕ, zero, suc, ◌+◌, Bool, true, false, not, ◌&&◌, ◌||◌, List, [], ◌∷◌, length, Option, Some, None, if◌then◌else◌, ◌==◌, min, ◌^◌, ◌-◌, option_map, is_some}
 use Rattle.sv_value.specs.declared.place.Place.{Place}
 use Rattle.sv_flat.specs.declared.design.Scale.{Scale}
 use Rattle.sv_flat.specs.declared.object.DataType.{DataType}
@@ -245,6 +245,15 @@ is_derived ks p q = any (line_of ks p)
     any : List ClassInfo → Bool
     any [] = false
     any (k ∷ more) = same_path k.path q || any more
+
+-- the rule that the last base of a line breaks
+abbrev pub broken_end : List ClassInfo → Option Fault
+broken_end [] = None
+broken_end (k ∷ ks) = nearest k.base_fault (broken_end ks)
+
+-- whether a class can be derived from another one: what lies behind a base that breaks a rule is not known
+abbrev pub can_be_derived : List ClassInfo → Path → Path → Bool
+can_be_derived ks p q = is_derived ks p q || is_some (broken_end (line_of ks p))
 
 -- a member of a class or of its bases
 abbrev pub member_in : List ℕ → List ClassInfo → Option (Checked Named)

@@ -23,12 +23,12 @@ use Rattle.sv_names.specs.declared.operator.Operands.{Operands}
 use Rattle.sv_names.specs.declared.operator.Operands.TheVariants.{Numbers, Comparison, Power}
 use Rattle.sv_names.specs.declared.around.ClassInfo.{ClassInfo}
 use Rattle.sv_names.specs.declared.checked.Checked.{Checked}
-use Rattle.sv_names.specs.declared.checked.Checked.TheVariants.{Good}
+use Rattle.sv_names.specs.declared.checked.Checked.TheVariants.{Good, Broken}
 use Rattle.sv_names.specs.declared.ty.Ty.{Ty}
 use Rattle.sv_names.specs.declared.ty.Ty.TheVariants.{Vector as Bit_vector, Enum, Text}
 use Rattle.sv_names.specs.declared.typed.Typed.{Typed}
-use Rattle.sv_names.specs.Checked.{both, ◌▷◌, given, broken_at, rule, all, fine, unless}
-use Rattle.sv_names.specs.Types.{is_integral, is_text, is_array, is_reference, same_enum, integral, width_of_type, sign_of_type, is_four_state, plain_vector, selectable}
+use Rattle.sv_names.specs.Checked.{both, ◌▷◌, given, broken_at, rule, fine, unless}
+use Rattle.sv_names.specs.Types.{is_integral, is_text, is_array, is_reference, same_flag, same_enum, integral, width_of_type, sign_of_type, is_four_state, plain_vector, selectable}
 use Rattle.sv_names.specs.Hoisted.{pure, mapped, paired, three}
 use Rattle.sv_digits.specs.declared.literal.Number.{Number}
 use Rattle.sv_names.specs.Literals.{number_of, fill_of_number, femtoseconds}
@@ -236,9 +236,11 @@ joinable at t =
     if is_array t.ty then broken_at 42 t.at
     else (if is_integral t.ty || is_text t.ty then Good t else broken_at 15 at)
 
--- strings alone, or numbers alone: the first part decides
-abbrev pub same_kind : Bool → Placed → Checked (Unit {0})
-same_kind texts p = rule 15 p.0 (if texts then is_integral p.1.ty else is_text p.1.ty)
+-- E15: strings alone, or numbers alone; the first part decides, where it breaks no rule
+abbrev pub joins : Checked Typed → Place → Typed → Checked Typed
+joins (Broken f) at t = joinable at t
+joins (Good first) at t =
+    joinable at t ▷ (λ x. if same_flag (is_text first.ty) (is_text x.ty) then Good x else broken_at 15 at)
 
 -- parts from the left
 abbrev pub joined : Typed → List Placed → Typed
@@ -250,12 +252,12 @@ joined a (p ∷ ps) =
     else plain_vector (width_of_type a.ty + width_of_type r.ty) false (is_four_state a.ty || is_four_state r.ty))
     a.at (a.is_constant && r.is_constant) (paired flat.Join a.code r.code)
 
--- one part alone is unsigned too
+-- one part alone is unsigned too, and keeps its x and z
 abbrev pub unsigned_part : Typed → Typed
 unsigned_part a =
     if is_text a.ty then a
     else value_typed (plain_vector (width_of_type a.ty) false (is_four_state a.ty)) a.at a.is_constant
-    (mapped (flat.Convert (integral (width_of_type a.ty) false (is_four_state a.ty))) a.code)
+    (mapped (flat.Convert (integral (width_of_type a.ty) false true)) a.code)
 
 -- one part, or several
 abbrev pub join_all : Placed → List Placed → Typed
@@ -276,9 +278,7 @@ widths_of (p ∷ ps) = width_of_type p.1.ty + widths_of ps
 -- E13, E15: a concatenation (11.4.12)
 abbrev pub join_of : Place → List Placed → Checked Typed
 join_of at [] = broken_at 15 at
-join_of at (p ∷ ps) =
-    all (same_kind (is_text p.1.ty)) (p ∷ ps)
-    ▷ (λ _. not_too_wide at (widths_of (p ∷ ps)) ▷ (λ _. Good (join_all p ps)))
+join_of at (p ∷ ps) = not_too_wide at (widths_of (p ∷ ps)) ▷ (λ _. Good (join_all p ps))
 
 -- E13: a replication of a concatenation (11.4.12.1)
 abbrev pub repeat_of : Place → Checked ℕ → Checked Typed → Checked Typed
@@ -302,16 +302,16 @@ cast_to ar (Bit_vector i b w) pe at t = number_cast (Bit_vector i b w) i pe at t
 cast_to ar (Enum s e i b w) pe at t = number_cast (Enum s e i b w) i pe at t
 cast_to ar to pe at t = one_item t ▷ (λ x. given (λ c. value_typed to pe x.is_constant c) (assigned ar to at x))
 
--- a number as one of a width, extended likewise, which keeps its sign
+-- a number as one of a width, extended likewise, which keeps its sign, and its x and z
 abbrev pub sized_as : Place → ℕ → Typed → Typed
 sized_as pe n x =
     value_typed (selectable n (sign_of_type x.ty) (is_four_state x.ty)) pe x.is_constant
-    (mapped (flat.Convert (integral n (sign_of_type x.ty) (is_four_state x.ty))) (widened n x))
+    (mapped (flat.Convert (integral n (sign_of_type x.ty) true)) (widened n x))
 
--- E13, E15: a cast to a width
+-- E13, E16: a cast to a width
 abbrev pub sized : Place → Place → ℕ → Typed → Checked Typed
 sized pe at n t =
-    not_too_wide pe n ▷ (λ _. number_operand at t ▷ (λ x. Good (sized_as pe n x)))
+    not_too_wide pe n ▷ (λ _. one_item t ▷ (λ x. if is_integral x.ty then Good (sized_as pe n x) else broken_at 16 at))
 
 -- `bit` has two states
 abbrev pub vector_word_four_state : VectorWord → Bool

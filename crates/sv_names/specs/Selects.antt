@@ -84,9 +84,9 @@ number_typed at i =
 -- `[l:r]` runs as its vector does
 abbrev pub fixed_part : Place → Place → Place → Bounds → Typed → ℤ → ℤ → Checked Typed
 fixed_part at pe pl b a l r =
-    (if is_descending b then rule 14 at (int_lt l r) else rule 14 at (int_lt r l))
-    ▷ (λ _. Good (selected (nat_abs (l -ℤ r) + 1) (pos 0) pl b a (number_typed pl r))
-    where_also not_too_wide pe (nat_abs (l -ℤ r) + 1))
+    Good (selected (nat_abs (l -ℤ r) + 1) (pos 0) pl b a (number_typed pl r))
+    where_also rule 14 at (if is_descending b then int_lt l r else int_lt r l)
+    where_also not_too_wide pe (nat_abs (l -ℤ r) + 1)
 
 -- `[b +: w]` and `[b -: w]`: the lowest bit stands at b or at b - (w - 1), counted from the low end
 abbrev pub lowest_back : PartWord → Bounds → ℕ → ℤ

@@ -28,6 +28,7 @@ use Rattle.sv_names.specs.Entries.{has_result, is_static_method, is_constructor,
 use Rattle.sv_names.specs.Scopes.{callee_within, subroutine_path, subroutine_scope, signals_in}
 use Rattle.sv_names.specs.Groups.{in_class}
 use Rattle.sv_names.specs.Assignments.{place_of_init, place_of_lval}
+use Rattle.sv_names.specs.Blocks.{after_scopes}
 use Rattle.sv_names.specs.Subroutines.{body_scope, in_body, returns_of, for_properties, constructor_path}
 use Rattle.sv_names.specs.Writers.{Touch, Writes, Calls, Declares, Writer, Continuously, No_process, Source, Table, writer_of, stmt_touches, stmts_touches, decls_touches, init_touches, target_touches, Initialized, declares, scope_declares, nearest_declares}
 use Rattle.sv_names.specs.Instances.{Inst, Walked, Enter, Meet, Connect, Pass, PortInfo, ports_of, plain_name}
@@ -216,10 +217,10 @@ pub record Met : Type 0 where
 abbrev pub met : (Inst → Around) → Walked → Met
 met at_inst (Enter i) =
     record { declared = flat_map (λ p. declared_in i.group p.name) (ports_of i.unit.element); processes = []; table = [] }
-met at_inst (Meet i item) =
+met at_inst (Meet i b item) =
     record {
       declared = item_declares (at_inst i) i.group i.path item;
-      processes = item_processes (at_inst i) i item;
+      processes = item_processes (after_scopes b (at_inst i)) i item;
       table = item_table (at_inst i) i.path item;
     }
 met at_inst (Connect i c cs) =
@@ -280,5 +281,5 @@ initialized_at p x = of_init x.init
 
 -- the initializers of an item
 abbrev pub initialized : Walked → List Initialized
-initialized (Meet i (tree_item.Decl d)) = flat_map (initialized_at i.path) d.names
+initialized (Meet i b (tree_item.Decl d)) = flat_map (initialized_at i.path) d.names
 initialized w = []

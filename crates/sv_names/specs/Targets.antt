@@ -1,5 +1,5 @@
 -- Targets: what may be written, and where (IEEE 1800-2017, 10.3, 10.4 and 14.16).
-use Rattle.std.specs.Prelude.{ℕ, ◌+◌, true, false, not, List, [], ◌∷◌, None, if◌then◌else◌, map, length}
+use Rattle.std.specs.Prelude.{ℕ, ◌+◌, true, false, not, ◌||◌, is_some, List, [], ◌∷◌, None, if◌then◌else◌, map, length}
 use Rattle.sv_value.specs.declared.place.Place.{Place}
 use Rattle.sv_flat.specs.declared.target.Lvalue.{Lvalue}
 use Rattle.sv_flat.specs.Expr as flat
@@ -31,7 +31,7 @@ may_begin h at t A_parameter = broken_at 19 at
 may_begin h at t An_item = broken_at 18 at
 may_begin h at t The_object = broken_at 18 at
 may_begin h at t A_value = broken_at 18 at
-may_begin Drive at t (A_signal b i o) = rule 47 t.at (not o)
+may_begin Drive at t (A_signal b i o) = rule 47 t.at (not o || is_some t.target.part)
 may_begin h at t (A_signal b i o) = broken_at 47 t.at
 may_begin Continuous at t (A_variable p) = rule 18 at t.target.is_item
 may_begin Nonblocking at t (A_variable p) = rule 26 at t.target.is_item

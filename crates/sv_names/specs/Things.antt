@@ -1,5 +1,5 @@
 -- What a name with its members and calls stands for (IEEE 1800-2017, 6, 8, 13.5 and 14).
-use Rattle.std.specs.Prelude.{ℕ, suc, Bool, true, false, ◌||◌, List, [], ◌∷◌, Option, Some, None, if◌then◌else◌, codes, length}
+use Rattle.std.specs.Prelude.{ℕ, suc, Bool, true, false, ◌&&◌, ◌||◌, ◌==◌, List, [], ◌∷◌, Option, Some, None, if◌then◌else◌, codes, length}
 use Rattle.sv_value.specs.declared.place.Place.{Place}
 use Rattle.sv_value.specs.declared.operator.BinOp.TheVariants as bin
 use Rattle.sv_value.specs.Vector.{vector, symbols_of}
@@ -13,6 +13,7 @@ use Rattle.sv_names.specs.declared.typed.How.{How}
 use Rattle.sv_names.specs.declared.around.ClassInfo.{ClassInfo}
 use Rattle.sv_names.specs.declared.around.Dollar.{Dollar}
 use Rattle.sv_names.specs.declared.around.Dollar.TheVariants.{NoDollar, UnknownDollar, LastIndex}
+use Rattle.sv_names.specs.declared.checked.Fault.{Fault}
 use Rattle.sv_names.specs.declared.checked.Checked.{Checked}
 use Rattle.sv_names.specs.declared.checked.Checked.TheVariants.{Good, Broken}
 use Rattle.sv_names.specs.declared.ty.Ty.{Ty}
@@ -28,7 +29,7 @@ use Rattle.sv_names.specs.declared.named.SignalInfo.{SignalInfo}
 use Rattle.sv_names.specs.Checked.{◌▷◌, given, broken_at, rule, ◌where_also◌, unless, also_broken}
 use Rattle.sv_names.specs.Types.{Path, is_queue, data_of, same_bytes}
 use Rattle.sv_names.specs.Hoisted.{pure, mapped, paired}
-use Rattle.sv_names.specs.Named.{Around, class_in, is_derived, member_of, property_place, found, told, meaning, kind_stands, is_type_kind, is_value_kind, result_named, further}
+use Rattle.sv_names.specs.Named.{Around, class_in, is_derived, line_of, broken_end, member_of, property_place, found, told, meaning, kind_stands, is_type_kind, is_value_kind, result_named, further}
 use Rattle.sv_names.specs.Values.{no_target}
 use Rattle.sv_names.specs.Targets.{Spot, may_be_written}
 use Rattle.sv_names.specs.Methods.{Method, method_of}
@@ -182,11 +183,17 @@ named_thing ar at (Itself c n) = of_result (variable_typed ar at (result_named n
   where
     of_result : Option Typed → Checked Thing
     of_result None = subroutine_thing ar at c (at_hand ar at) false
-    of_result (Some v) = lasts ar at ▷ (λ _. Good (Its_result c (at_hand ar at) (as_result v v.target.begins) at))
+    of_result (Some v) = Good (Its_result c (at_hand ar at) (as_result v v.target.begins) at)
 named_thing ar at (ClockingBlock p ss) = Good (A_block p ss at)
 named_thing ar at Other = broken_at 7 at
 
 -- ---- members of objects and classes
+
+-- a constant behind an object, which is not looked at; its calls run
+abbrev pub after_object : Option Typed → Typed → Typed
+after_object None t = t
+after_object (Some o) t =
+    record t { is_constant = t.is_constant && (length o.code.hidden == 0); code = mapped (λ e. t.code.value) o.code }
 
 -- E36, E37, E39: a member, with its object where there is one; `super` and `::` name the method itself
 abbrev pub member_thing : Around → Place → Option Typed → Bool → Named → Checked Thing
@@ -196,12 +203,20 @@ member_thing ar at o direct (StaticProperty k g p t) =
     may_be_named ar g k at ▷ (λ _. lasts ar at ▷ (λ _.
     Good (A_value (through_reference (not_at_hand o) (object_typed ar at p t (A_static_property p))))))
 member_thing ar at o direct (Subroutine c) = subroutine_thing ar at c o direct
-member_thing ar at o direct (Constant t p) = Good (A_value (constant_named at p t))
+member_thing ar at o direct (Constant t p) = Good (A_value (after_object o (constant_named at p t)))
 member_thing ar at o direct n = broken_at 7 at
 
--- E36: a member by its name
+-- E36: a member that is not found can stand behind a base that breaks a rule
+abbrev pub member_found : Place → Option Fault → Option (Checked Named) → Checked (Checked Named)
+member_found at b (Some c) = Good c
+member_found at (Some f) None = Broken f
+member_found at None None = broken_at 36 at
+
+-- a member by its name
 abbrev pub member_named : Around → Path → Option Typed → Bool → Name → Checked Thing
-member_named ar k o direct n = unless 36 n.at (member_of ar k n.text) ▷ (λ c. told n c ▷ member_thing ar n.at o direct)
+member_named ar k o direct n =
+    member_found n.at (broken_end (line_of ar.classes k)) (member_of ar k n.text)
+    ▷ (λ c. told n c ▷ member_thing ar n.at o direct)
 
 -- the object, where it is one of the class
 abbrev pub object_of : Around → Place → Path → Option Typed
@@ -259,12 +274,17 @@ bare_subroutine ar pe c o direct at None =
     if c.is_task || gives_nothing c.result then bare_call ar pe (subroutine_called ar pe true c o direct []) else broken_at 7 at
 bare_subroutine ar pe c o direct at (Some k) = bare_call ar pe (subroutine_called ar pe true c o direct [])
 
+-- E7, E51: the result variable of an automatic function is one of the activation
+abbrev pub result_value : Around → Place → Typed → Begin → Checked Typed
+result_value ar at v InActivation = if ar.is_initial then broken_at 7 at else lasts ar at ▷ (λ _. Good v)
+result_value ar at v b = Good v
+
 -- a thing as a value; the place is that of the expression
 abbrev pub thing_value : Around → Place → Thing → Checked Typed
 thing_value ar pe (A_value t) = Good t
 thing_value ar pe (A_subroutine c o direct at) = bare_subroutine ar pe c o direct at c.class
 thing_value ar pe (A_method m o at) = bare_call ar pe (method_called ar pe true m o [])
-thing_value ar pe (Its_result c o v at) = Good v
+thing_value ar pe (Its_result c o v at) = result_value ar at v v.target.begins
 thing_value ar pe (A_block p ss at) = broken_at 7 at
 thing_value ar pe (The_signal b i s at) = signal_read ar b i s at
 thing_value ar pe (A_type t at) = broken_at 7 at

@@ -20,7 +20,7 @@ use Rattle.sv_names.specs.declared.typed.Begin.TheVariants.{Value as A_value}
 use Rattle.sv_names.specs.Checked.{◌▷◌, given, broken_at, rule}
 use Rattle.sv_names.specs.Types.{is_integral, is_text, is_array, is_container, is_sync, is_null, is_enum, same_enum, same_type, width_of_type, sign_of_type, Path}
 use Rattle.sv_names.specs.Hoisted.{mapped}
-use Rattle.sv_names.specs.Named.{Around, is_derived}
+use Rattle.sv_names.specs.Named.{Around, can_be_derived}
 
 -- ---- expressions that are no targets
 
@@ -60,21 +60,19 @@ abbrev pub vector_of : Valued → Vector
 vector_of (Ok v) = vector_in v
 vector_of (Err k) = unsigned (X ∷ [])
 
--- the text of a value
-abbrev pub text_of : Valued → List ℕ
-text_of (Ok v) = text_in v
-text_of (Err k) = []
-
 -- the bits of a constant expression
 abbrev pub constant_vector : Typed → Vector
 constant_vector t = vector_of (value_of t.code.value nowhere)
 
--- a constant expression is a literal of its value
+-- a constant expression is a literal of its value; one that has none stays as it is
 abbrev pub literal_of : Ty → flat.Expr → flat.Expr
-literal_of (Bit_vector i b w) e = flat.Literal (vector_of (value_of e nowhere)) None
-literal_of (Enum s at i b w) e = flat.Literal (vector_of (value_of e nowhere)) None
-literal_of Text e = flat.Text (text_of (value_of e nowhere))
-literal_of t e = e
+literal_of t e = of_value t (value_of e nowhere)
+  where
+    of_value : Ty → Valued → flat.Expr
+    of_value (Bit_vector i b w) (Ok v) = flat.Literal (vector_in v) None
+    of_value (Enum s at i b w) (Ok v) = flat.Literal (vector_in v) None
+    of_value Text (Ok v) = flat.Text (text_in v)
+    of_value u r = e
 
 -- a constant in a context of its own
 abbrev pub folded : Bool → Ty → Hoisted flat.Expr → Hoisted flat.Expr
@@ -142,7 +140,7 @@ abbrev pub common_reference : List ClassInfo → Ty → Ty → Option Ty
 common_reference ks Null b = Some b
 common_reference ks a Null = Some a
 common_reference ks (Class a) (Class b) =
-    if is_derived ks a b then Some (Class b) else (if is_derived ks b a then Some (Class a) else None)
+    if can_be_derived ks a b then Some (Class b) else (if can_be_derived ks b a then Some (Class a) else None)
 common_reference ks a b = if same_type a b then Some a else None
 
 -- E16, E42: a container for a container of its type
@@ -167,7 +165,7 @@ assigned_if false at t = broken_at 16 at
 -- whether a class variable takes it
 abbrev pub fits_class : List ClassInfo → Path → Ty → Bool
 fits_class ks p Null = true
-fits_class ks p (Class q) = is_derived ks q p
+fits_class ks p (Class q) = can_be_derived ks q p
 fits_class ks p t = false
 
 -- E16: a value by the type of its target

@@ -19,9 +19,10 @@ use Rattle.sv_flat.specs.declared.target.Lvalue.{Lvalue}
 use Rattle.sv_flat.specs.declared.target.Part.{Part}
 use Rattle.sv_flat.specs.declared.target.Base.{Base}
 use Rattle.sv_flat.specs.declared.target.Base.TheVariants as base
+use Rattle.sv_flat.specs.declared.target.Container.{Container}
 use Rattle.sv_flat.specs.Expr as flat
 use Rattle.sv_flat.specs.Eval.{known_index, low_place, plain_width, type_width}
-use Rattle.sv_flat.specs.Names.{form_exprs, call_exprs, inner_routines, forked, form_targets, call_targets}
+use Rattle.sv_flat.specs.Names.{form_exprs, container_exprs, base_exprs, part_exprs, optional, call_exprs, inner_routines, forked, form_targets, call_targets}
 
 -- ---- watched operands: names with their leading constant selects
 
@@ -113,11 +114,37 @@ entered_by (form.Foreach c t b) = 1
 entered_by (form.ForeachElement b r) = 1
 entered_by f = 0
 
+-- what leads to a container that is only changed
+abbrev pub looked_through : Container → List flat.Expr
+looked_through c = by c.property c.holder
+  where
+    by : Option ℕ → flat.Expr → List flat.Expr
+    by None (flat.Static r m) = r ∷ []
+    by None e = []
+    by (Some p) e = e ∷ []
+
+-- the indices and references of a target
+abbrev pub base_read : Base → List flat.Expr
+base_read (base.Item c i) = looked_through c ++ i ∷ []
+base_read b = base_exprs b
+
+-- those of all parts of a target
+abbrev pub targets_read : List Lvalue → List flat.Expr
+targets_read ts = flat_map (λ l. optional l.through ++ base_read l.base ++ part_exprs l.part) ts
+
+-- the expressions that a form reads: what stands as a target alone is not read (9.4.2.2)
+abbrev pub exprs_read : Form → List flat.Expr
+exprs_read (form.Assign ts e) = e ∷ targets_read ts
+exprs_read (form.AssignAfter ts e delay in_ticks) = e ∷ delay ∷ targets_read ts
+exprs_read (form.CopyContainer c s) = looked_through c ++ container_exprs s
+exprs_read (form.Resize c e s t) = looked_through c ++ e ∷ flat_map container_exprs (optional s)
+exprs_read f = form_exprs f
+
 -- what a statement itself reads, with its calls
 abbrev pub own_operands : ℕ → Stmt → List flat.Expr
 own_operands d s =
     flat_map (λ c. flat_map (operands (d + one_if s.hidden)) (call_exprs c.form)) s.calls
-    ++ flat_map (operands (d + one_if s.hidden)) (form_exprs s.form)
+    ++ flat_map (operands (d + one_if s.hidden)) (exprs_read s.form)
 
 -- what statements and all that stands in them read
 abbrev pub operands_of : (RoutineId → List Stmt) → ℕ → ℕ → List Stmt → List flat.Expr

@@ -5,8 +5,7 @@ use Rattle.sv_value.specs.declared.place.Place.{Place}
 use Rattle.sv_tree.specs.declared.word.Name.{Name}
 use Rattle.sv_tree.specs.declared.word.ProcedureWord.{ProcedureWord}
 use Rattle.sv_tree.specs.declared.word.ProcedureWord.TheVariants as procedure
-use Rattle.sv_tree.specs.declared.word.Direction.{Direction}
-use Rattle.sv_tree.specs.declared.word.Direction.TheVariants as direction
+use Rattle.sv_tree.specs.declared.expr.Root.{Root}
 use Rattle.sv_tree.specs.Expr as tree
 use Rattle.sv_tree.specs.Expr.{place_of_root}
 use Rattle.sv_tree.specs.Stmt as tree_stmt
@@ -30,9 +29,9 @@ use Rattle.sv_names.specs.Types.{Path, same_path, has_path, is_fixed, size_of_ty
 use Rattle.sv_names.specs.Named.{Around, meaning, is_derived, result_named}
 use Rattle.sv_names.specs.Targets.{Spot, type_of_target}
 use Rattle.sv_names.specs.Methods
-use Rattle.sv_names.specs.Formats.{Arg}
+use Rattle.sv_names.specs.Calls.{is_output}
 use Rattle.sv_names.specs.Things.{Thing, A_subroutine, A_method, Its_result, root_thing, dollar_in}
-use Rattle.sv_names.specs.Expressions.{args, actual_args, things, target, target_in, before_select, as_expr, with_dollar, System, Cast, system_of}
+use Rattle.sv_names.specs.Expressions.{things, target, target_in, before_select, as_expr, with_dollar, System, Cast, system_of}
 use Rattle.sv_names.specs.Blocks.{inner_scope, inside, first_name, after_scopes, scopes_made}
 use Rattle.sv_names.specs.Statements.{block_entries, for_entries, foreach_entries, walked_array, automatic_loop}
 use Rattle.sv_names.specs.Subroutines.{constructor_path}
@@ -58,95 +57,93 @@ written_by at b = []
 abbrev pub spot_touches : List Spot → List Touch
 spot_touches ss = flat_map (λ s. written_by s.0 s.1.target.begins) ss
 
--- those of what can be a target
-abbrev pub spots_in : Option (Checked (List Spot)) → List Touch
-spots_in (Some (Good ss)) = spot_touches ss
-spots_in c = []
-
 -- the object before a broken select
 abbrev pub selected_touches : Place → Option Typed → List Touch
 selected_touches at None = []
 selected_touches at (Some t) = written_by at t.target.begins
 
--- a target, also where one of its selects breaks a rule
-abbrev pub target_touches : How → Around → tree.Expr → List Touch
-target_touches h ar (tree.Post r s) = by (target_in h ar (tree.Post r s))
+-- a target that is no concatenation, also where one of its selects breaks a rule
+abbrev pub part_touches : How → Around → Root → tree.Suffixes → List Touch
+part_touches h ar r s = by (target_in h ar (tree.Post r s))
   where
     by : Option (Checked (List Spot)) → List Touch
+    by None = []
+    by (Some (Good ss)) = spot_touches ss
     by (Some (Broken f)) = selected_touches (place_of_root r) (before_select ar (place_of_root r) (root_thing ar r) s)
-    by c = spots_in c
-target_touches h ar e = spots_in (target_in h ar e)
+
+abbrev mutual
+  -- a target
+  pub target_touches : How → Around → tree.Expr → List Touch
+  target_touches h ar (tree.Post r s) = part_touches h ar r s
+  target_touches h ar (tree.Join at es) = targets_touches h ar es
+  target_touches h ar e = []
+
+  -- the parts of a concatenation, whichever of them break a rule
+  pub targets_touches : How → Around → tree.Exprs → List Touch
+  targets_touches h ar tree.NoExpr = []
+  targets_touches h ar (tree.AndExpr e es) = target_touches h ar e ++ targets_touches h ar es
 
 -- ---- calls
 
--- the subroutine that is called
+-- the subroutine that is called; a virtual one, or what overrides it
 abbrev pub callee_touches : Callee → Option Typed → Bool → List Touch
 callee_touches c None direct = Calls c.path ∷ []
 callee_touches c (Some o) direct = by o.ty
   where
     by : Ty → List Touch
     by (Class p) =
-        if c.is_virtual && not direct && not c.is_static then Calls_virtual p c.name.text ∷ [] else Calls c.path ∷ []
+        Calls c.path ∷ (if c.is_virtual && not direct && not c.is_static then Calls_virtual p c.name.text ∷ [] else [])
     by t = Calls c.path ∷ []
 
--- whether an argument is written
-abbrev pub is_output : Direction → Bool
-is_output direction.Input = false
-is_output d = true
-
 -- the targets among the arguments
-abbrev pub output_touches : List Formal → List Arg → List Touch
-output_touches [] as' = []
-output_touches (f ∷ fs) [] = []
-output_touches (f ∷ fs) (a ∷ as') =
-    (if is_output f.direction then spots_in (a.target By_statement 0) else []) ++ output_touches fs as'
+abbrev pub output_touches : Around → List Formal → tree.Exprs → List Touch
+output_touches ar [] es = []
+output_touches ar (f ∷ fs) tree.NoExpr = []
+output_touches ar (f ∷ fs) (tree.AndExpr e es) =
+    (if is_output f.direction then target_touches By_statement ar e else []) ++ output_touches ar fs es
 
 -- the first argument as a target
-abbrev pub first_target : List Arg → List Touch
-first_target [] = []
-first_target (a ∷ as') = spots_in (a.target By_statement 0)
+abbrev pub first_target : Around → tree.Exprs → List Touch
+first_target ar tree.NoExpr = []
+first_target ar (tree.AndExpr e es) = target_touches By_statement ar e
 
 -- a container that a method changes is written
 abbrev pub container_touches : Typed → List Touch
-container_touches o = by o.target.begins
-  where
-    by : Begin → List Touch
-    by (A_variable p) = Writes o.at p ∷ []
-    by b = []
+container_touches o = written_by o.at o.target.begins
 
 -- what a method of the language writes
-abbrev pub action_touches : Methods.Action → Typed → List Arg → List Touch
-action_touches (Methods.Push e) o as' = container_touches o
-action_touches (Methods.Pop e) o as' = container_touches o
-action_touches Methods.Insert o as' = container_touches o
-action_touches Methods.Delete o as' = container_touches o
-action_touches (Methods.Walk w) o as' = container_touches o ++ first_target as'
-action_touches (Methods.Get p w) o as' = first_target as'
-action_touches m o as' = []
+abbrev pub action_touches : Around → Methods.Action → Typed → tree.Exprs → List Touch
+action_touches ar (Methods.Push e) o es = container_touches o
+action_touches ar (Methods.Pop e) o es = container_touches o
+action_touches ar Methods.Insert o es = container_touches o
+action_touches ar Methods.Delete o es = container_touches o
+action_touches ar (Methods.Walk w) o es = first_target ar es
+action_touches ar (Methods.Get p w) o es = first_target ar es
+action_touches ar m o es = []
 
 -- what a call writes and calls
-abbrev pub call_touches : Checked Thing → List Arg → List Touch
-call_touches (Good (A_subroutine c o direct at)) as' = callee_touches c o direct ++ output_touches c.formals as'
-call_touches (Good (Its_result c o v at)) as' = callee_touches c o false ++ output_touches c.formals as'
-call_touches (Good (A_method m o at)) as' = action_touches m.action o as'
-call_touches th as' = []
+abbrev pub call_touches : Around → Checked Thing → tree.Exprs → List Touch
+call_touches ar (Good (A_subroutine c o direct at)) es = callee_touches c o direct ++ output_touches ar c.formals es
+call_touches ar (Good (Its_result c o v at)) es = callee_touches c o false ++ output_touches ar c.formals es
+call_touches ar (Good (A_method m o at)) es = action_touches ar m.action o es
+call_touches ar th es = []
 
 -- the same without brackets
-abbrev pub bare_touches : Checked Thing → List Touch
-bare_touches (Good (Its_result c o v at)) = []
-bare_touches th = call_touches th []
+abbrev pub bare_touches : Around → Checked Thing → List Touch
+bare_touches ar (Good (Its_result c o v at)) = []
+bare_touches ar th = call_touches ar th tree.NoExpr
 
 -- `$cast` writes its first argument
-abbrev pub cast_touches : System → List Arg → List Touch
-cast_touches Cast as' = first_target as'
-cast_touches s as' = []
+abbrev pub cast_touches : Around → System → tree.Actuals → List Touch
+cast_touches ar Cast (tree.Written es) = first_target ar es
+cast_touches ar s a = []
 
 abbrev mutual
   -- what an expression writes and calls
   pub expr_touches : Around → tree.Expr → List Touch
   expr_touches ar (tree.Group at e) = expr_touches ar e
   expr_touches ar (tree.Post r s) = suffix_touches ar (place_of_root r) (root_thing ar r) s
-  expr_touches ar (tree.System n a) = cast_touches (system_of n) (actual_args ar a) ++ actuals_touches ar a
+  expr_touches ar (tree.System n a) = cast_touches ar (system_of n) a ++ actuals_touches ar a
   expr_touches ar (tree.SuperNew at new a) = actuals_touches ar a
   expr_touches ar (tree.Join at es) = exprs_touches ar es
   expr_touches ar (tree.Repeat at n inner es) = exprs_touches ar es
@@ -168,17 +165,17 @@ abbrev mutual
 
   -- what follows a name writes and calls
   pub suffix_touches : Around → Place → Checked Thing → tree.Suffixes → List Touch
-  suffix_touches ar pe th tree.NoSuffix = bare_touches th
+  suffix_touches ar pe th tree.NoSuffix = bare_touches ar th
   suffix_touches ar pe th (tree.Member n rest) =
-      bare_touches th ++ suffix_touches ar pe (things ar pe th (tree.Member n tree.NoSuffix)) rest
+      bare_touches ar th ++ suffix_touches ar pe (things ar pe th (tree.Member n tree.NoSuffix)) rest
   suffix_touches ar pe th (tree.Call at es rest) =
-      call_touches th (args ar es) ++ exprs_touches ar es
+      call_touches ar th es ++ exprs_touches ar es
       ++ suffix_touches ar pe (things ar pe th (tree.Call at es tree.NoSuffix)) rest
   suffix_touches ar pe th (tree.Select at i rest) =
-      bare_touches th ++ expr_touches (with_dollar (dollar_in th) ar) i
+      bare_touches ar th ++ expr_touches (with_dollar (dollar_in th) ar) i
       ++ suffix_touches ar pe (things ar pe th (tree.Select at i tree.NoSuffix)) rest
   suffix_touches ar pe th (tree.Part at w l r rest) =
-      bare_touches th ++ expr_touches ar l
+      bare_touches ar th ++ expr_touches ar l
       ++ suffix_touches ar pe (things ar pe th (tree.Part at w l r tree.NoSuffix)) rest
 
 -- of what may be left out
@@ -285,8 +282,10 @@ abbrev mutual
   -- the same of the items of a `case`
   pub items_touches : Around → tree_stmt.CaseItems → List Touch
   items_touches ar tree_stmt.NoCaseItem = []
-  items_touches ar (tree_stmt.Labels es x rest) = exprs_touches ar es ++ stmt_touches ar x ++ items_touches ar rest
-  items_touches ar (tree_stmt.Default x rest) = stmt_touches ar x ++ items_touches ar rest
+  items_touches ar (tree_stmt.Labels es x rest) =
+      exprs_touches ar es ++ stmt_touches ar x ++ items_touches (after_scopes (scopes_made x) ar) rest
+  items_touches ar (tree_stmt.Default x rest) =
+      stmt_touches ar x ++ items_touches (after_scopes (scopes_made x) ar) rest
 
   -- the same of a statement without its label
   pub body_touches : Around → Option Name → tree_stmt.Body → List Touch
