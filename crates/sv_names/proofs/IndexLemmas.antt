@@ -1,8 +1,9 @@
 -- An index of names grows with them, and finds what the definition finds; names stay where values change.
-use Rattle.std.proofs.Common.{◌≡◌, ℕ, suc, zero, ◌+◌, ◌<◌, Bool, true, false, cond, List, [], ◌∷◌, ◌++◌, length, map, slice_get, Option, Some, None, option_map, is_some, IfSome, Vec, refl, sym, ap, subst, ◌∙◌, true≢false, arith}
+use Rattle.std.proofs.Common.{◌≡◌, ℕ, suc, zero, ◌+◌, ◌*◌, ◌^◌, ◌<◌, ◌≤◌, Bool, true, false, cond, List, [], ◌∷◌, ◌++◌, length, map, slice_get, Option, Some, None, option_map, is_some, IfSome, Vec, refl, sym, ap, subst, ◌∙◌, true≢false, arith}
 use Rattle.std.specs.Prelude.{get_or}
+use Rattle.std.proofs.Math.Nat.{mul-le-mul_right}
 use Rattle.std.proofs.lemmas.List.{length-map}
-use Rattle.std.proofs.lemmas.Option.{slice_get_read}
+use Rattle.std.proofs.lemmas.Option.{slice_get-get_or}
 use Rattle.std.specs.Cmp.Lexicographic.{bytes_decides}
 use Rattle.std.specs.Map.{lookup}
 use Rattle.indexmap.specs.IndexMap.{IndexMap, get_by, insert_entry}
@@ -121,14 +122,19 @@ module _ {A S : Type 0} (index : IndexMap (Vec ℕ A) ℕ S) (ks : List Known) (
   declared-within i some = subst (λ n. i < n) (length-map ks (λ k. k.name.text)) (subst (λ r. IfSome r (λ i. i < length (names_of ks))) (sym (is x) ∙ some) (first-within x (names_of ks)))
 
   -- there, and at the place that is listed
-  pub declared-some : (up i : ℕ) (k : Known) (ps : List ℕ) (p : ℕ) → get_by (λ k. same_bytes x k.items) index ≡ Some i → ps ≡ places_from 0 ks
-      → k ≡ get_or ks i k → p ≡ get_or ps i p → declared_in up 0 x ks ≡ Some (record { up = up; place = p; known = k })
-  declared-some up i k ps p some listed e f =
+  pub declared-some : (up i : ℕ) (k : Known) (ps : List ℕ) → get_by (λ k. same_bytes x k.items) index ≡ Some i → ps ≡ places_from 0 ks
+      → get_or ks i k ≡ k → declared_in up 0 x ks ≡ Some (record { up = up; place = get_or ps i 0; known = k })
+  declared-some up i k ps some listed read =
       let within = declared-within i some in
       let long : length ks ≡ length ps = sym (ap length listed ∙ length-places_from 0 ks) in
-      let place : slice_get ps i ≡ Some p = slice_get_read ps _ i p refl (subst (λ n. i < n) long within) f in
+      let place : slice_get ps i ≡ Some (get_or ps i 0) = slice_get-get_or ps i 0 (subst (λ n. i < n) long within) in
+      let there : slice_get ks i ≡ Some k = slice_get-get_or ks i k within ∙ ap Some read in
       declared-first up 0 x ks ∙ ap (at up ks (places_from 0 ks)) (sym (is x) ∙ some)
-      ∙ located-get up i ks (places_from 0 ks) k p (slice_get_read ks _ i k refl within e) (subst (λ l. slice_get l i ≡ Some p) listed place)
+      ∙ located-get up i ks (places_from 0 ks) k (get_or ps i 0) there (subst (λ l. slice_get l i ≡ Some (get_or ps i 0)) listed place)
+
+-- what begins at an index within memory begins within memory
+pub offset_within : (i l n : ℕ) → i < l → l * n < 2 ^ 63 → i * n < 2 ^ 64
+offset_within i l n below small = let le : i * n ≤ l * n = mul-le-mul_right n (omega (arith, below)) in omega (arith, le, small)
 
 -- ---- other values
 
