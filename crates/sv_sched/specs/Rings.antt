@@ -1,6 +1,8 @@
 -- How the future is kept: the moments from the last on in rings, each later one in a map (IEEE 1800-2017, 4.4).
-use Rattle.std.specs.Prelude.{ℕ, ◌≡◌, ◌+◌, ◌%◌, ◌<◌, ◌≤◌, List, [], ◌∷◌, length, get_or, Option, None, Some}
+use Rattle.std.specs.Prelude.{ℕ, ◌≡◌, ◌+◌, ◌%◌, ◌<◌, ◌≤◌, List, [], ◌∷◌, length, filter, get_or, Option, None, Some}
+use Rattle.sv_value.specs.declared.number.ProcessId.{ProcessId}
 use Rattle.sv_value.specs.declared.schedule.Event.{Event}
+use Rattle.sv_flat.specs.Effects.Ends.{not_due_to}
 use Rattle.sv_sched.specs.Future.{due_at}
 
 -- the time of the first event
@@ -17,6 +19,11 @@ in_queue (Some es) = es
 abbrev pub queued : List Event → Option (List Event)
 queued [] = None
 queued (e ∷ es) = Some (e ∷ es)
+
+-- what a queue of the map has after a process has ended
+abbrev pub left_in : ProcessId → Option (List Event) → Option (List Event)
+left_in p None = None
+left_in p (Some es) = queued (filter (not_due_to p) es)
 
 -- what is in the ring of a moment
 abbrev pub ring_at : List (List Event) → ℕ → List Event
