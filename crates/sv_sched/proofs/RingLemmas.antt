@@ -1,5 +1,5 @@
 -- How the rings and the map keep the future.
-use Rattle.std.proofs.Common.{ℕ, ◌≡◌, ◌+◌, ◌-◌, ◌*◌, ◌/◌, ◌%◌, ◌<◌, ◌≤◌, List, [], ◌∷◌, ◌++◌, None, Some, refl, ap, sym, ◌∙◌, arith, length}
+use Rattle.std.proofs.Common.{ℕ, zero, suc, ◌≡◌, ◌+◌, ◌-◌, ◌*◌, ◌/◌, ◌%◌, ◌<◌, ◌≤◌, List, [], ◌∷◌, ◌++◌, None, Some, refl, ap, sym, ◌∙◌, arith, inl, inr, ◌⊎◌, length}
 use Rattle.std.specs.Prelude.{Option, ◌==◌, filter, get_or, set}
 use Rattle.std.proofs.lemmas.Bool.{cases_eq, cases_lt}
 use Rattle.std.proofs.lemmas.List.{get_or-set_same, get_or-set_other, length-set}
@@ -271,3 +271,31 @@ coming_last rings later t es k n = record {
   far = k.far;
   only_far = n;
 }
+
+-- ---- the walks along the rings
+
+no_time : (es : List Event) → time_of_first es ≡ None → es ≡ []
+no_time [] h = refl
+no_time (e ∷ es) h = absurd (cc)
+
+pub passed_near : (rings : List (List Event)) (last ticks : ℕ) → ((u : ℕ) → last ≤ u → u < last + ticks → ring_at rings u ≡ [])
+    → time_of_first (ring_at rings (last + ticks)) ≡ None → (u : ℕ) → last ≤ u → u < last + (ticks + 1) → ring_at rings u ≡ []
+passed_near rings last ticks passed none u h i = at (cases_eq u (last + ticks))
+  where
+    at : (u ≡ last + ticks) ⊎ (u ≡ last + ticks → ⊥) → ring_at rings u ≡ []
+    at (inl s) = ap (λ (v : ℕ). ring_at rings v) s ∙ no_time (ring_at rings (last + ticks)) none
+    at (inr o) = passed u h (below (cases_lt u (last + ticks)) o)
+
+    below : (u < last + ticks) ⊎ (last + ticks ≤ u) → (u ≡ last + ticks → ⊥) → u < last + ticks
+    below (inl l) o = l
+    below (inr l) o = absurd (o (omega arith))
+
+pub found_near : (rings : List (List Event)) (last ticks t : ℕ) → ticks < 256 → ((u : ℕ) → last ≤ u → u < last + ticks → ring_at rings u ≡ [])
+    → time_of_first (ring_at rings (last + ticks)) ≡ Some t → IsFirstNear rings last t
+found_near rings last ticks t below passed first = record { moment = last + ticks; from = omega arith; within = omega arith; first = first; before = passed }
+
+pub more_empty : (rings : List (List Event)) → ((i : ℕ) → get_or rings i [] ≡ []) → (i : ℕ) → get_or (rings ++ [] ∷ []) i [] ≡ []
+more_empty [] h zero = refl
+more_empty [] h (suc i) = refl
+more_empty (r ∷ rings) h zero = h zero
+more_empty (r ∷ rings) h (suc i) = more_empty rings (λ j. h (suc j)) i

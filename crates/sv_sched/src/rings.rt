@@ -13,7 +13,7 @@ pub fn empty_rings(alloc: Global) -> Result<Vec<Queue>, NoMemory>
     ensures empty { IfOk result (λ v. (i : ℕ) → get_or v.items i [] ≡ []) }
 {
     let mut rings = Vec::new(alloc);
-    for _ in 0..256 {
+    for _ in 0..256usize {
         rings.push(Queue::new(alloc))?;
     }
     Ok(rings)
