@@ -2,7 +2,8 @@
 use Rattle.std.proofs.Common.{ℕ, ◌≡◌, List, [], ◌∷◌, Option, None, Some, Bool, not, refl, ap, ◌∙◌, arith, length, map}
 use Rattle.std.specs.Prelude.{◌==◌, filter}
 use Rattle.std.specs.Ordering.{nat_cmp, eq_by_cmp}
-use Rattle.std.specs.Option.{option_map, option_filter}
+use Rattle.std.specs.Option.{option_map}
+use Rattle.std.specs.Iterator.{option_filter}
 use Rattle.std.specs.Map.{lookup, keys_of}
 use Rattle.std.specs.List.Sorted.{IsStrictlySortedBy}
 use Rattle.std.proofs.lemmas.Bool.Decides.{nat_tests}

@@ -1,18 +1,18 @@
 -- How the rings and the map keep the future.
-use Rattle.std.proofs.Common.{ℕ, zero, suc, ◌≡◌, ◌+◌, ◌-◌, ◌*◌, ◌/◌, ◌%◌, ◌<◌, ◌≤◌, List, [], ◌∷◌, ◌++◌, None, Some, refl, ap, sym, ◌∙◌, arith, inl, inr, ◌⊎◌, length}
-use Rattle.std.specs.Prelude.{Option, ◌==◌, filter, get_or, set}
+use Rattle.std.proofs.Common.{ℕ, ◌≡◌, ◌+◌, ◌-◌, ◌*◌, ◌/◌, ◌%◌, ◌<◌, ◌≤◌, List, [], ◌∷◌, ◌++◌, None, Some, refl, ap, sym, ◌∙◌, arith, inl, inr, ◌⊎◌, subst, length}
+use Rattle.std.specs.Prelude.{Option, IfSome, IfNone, ◌==◌, filter, get_or, set}
 use Rattle.std.proofs.lemmas.Bool.{cases_eq, cases_lt}
-use Rattle.std.proofs.lemmas.List.{get_or-set_same, get_or-set_other, length-set}
+use Rattle.std.proofs.lemmas.List.{get_or-set_same, get_or-set_other, get_or_default, length-set}
 use Rattle.std.proofs.lemmas.Nat.{mod_below}
 use Rattle.std.proofs.Math.Nat.{mod-add-div', add-mod-mod}
 use Rattle.sv_value.specs.declared.number.ProcessId.{ProcessId}
 use Rattle.sv_value.specs.declared.schedule.Event.{Event}
 use Rattle.sv_flat.specs.Steps.{least_time}
 use Rattle.sv_flat.specs.Effects.Ends.{not_due_to}
-use Rattle.sv_sched.specs.Future.{without_first_at, due_at}
+use Rattle.sv_sched.specs.Future.{first_at, without_first_at, due_at}
 use Rattle.sv_sched.specs.Rings.{time_of_first, in_queue, queued, left_in, ring_at, IsKept, IsFirstNear}
 use Rattle.sv_sched.proofs.FutureLemmas.{AllFrom-least_time}
-use Rattle.sv_sched.proofs.DueLemmas.{due_more, due_no_more, first_time_is, left_is, other_left, filter-filter, none_before, least_due, least_is, none_is}
+use Rattle.sv_sched.proofs.DueLemmas.{due_more, due_no_more, first_is, first_time_is, left_is, other_left, filter-filter, none_before, least_due, least_is, none_is}
 
 -- ---- places
 
@@ -278,24 +278,46 @@ no_time : (es : List Event) → time_of_first es ≡ None → es ≡ []
 no_time [] h = refl
 no_time (e ∷ es) h = absurd (cc)
 
-pub passed_near : (rings : List (List Event)) (last ticks : ℕ) → ((u : ℕ) → last ≤ u → u < last + ticks → ring_at rings u ≡ [])
-    → time_of_first (ring_at rings (last + ticks)) ≡ None → (u : ℕ) → last ≤ u → u < last + (ticks + 1) → ring_at rings u ≡ []
-passed_near rings last ticks passed none u h i = at (cases_eq u (last + ticks))
-  where
-    at : (u ≡ last + ticks) ⊎ (u ≡ last + ticks → ⊥) → ring_at rings u ≡ []
-    at (inl s) = ap (λ (v : ℕ). ring_at rings v) s ∙ no_time (ring_at rings (last + ticks)) none
-    at (inr o) = passed u h (below (cases_lt u (last + ticks)) o)
+below_more : (u v : ℕ) → (u < v) ⊎ (v ≤ u) → (u ≡ v → ⊥) → u < v + 1 → u < v
+below_more u v (inl l) o h = l
+below_more u v (inr l) o h = absurd (o (omega arith))
 
-    below : (u < last + ticks) ⊎ (last + ticks ≤ u) → (u ≡ last + ticks → ⊥) → u < last + ticks
-    below (inl l) o = l
-    below (inr l) o = absurd (o (omega arith))
+-- what `rings[place]` gives
+pub read_ring : (rings : List (List Event)) (place t : ℕ) (ring : List Event) → length rings ≡ 256 → place ≡ t % 256 → get_or rings place ring ≡ ring → ring_at rings t ≡ ring
+read_ring rings place t ring n is got =
+    let within : t % 256 < length rings = is_place t (length rings) n in
+    ap (λ (j : ℕ). get_or rings j []) (sym is) ∙ get_or_default rings place [] ring (omega (arith, within, is)) ∙ got
 
 pub found_near : (rings : List (List Event)) (last ticks t : ℕ) → ticks < 256 → ((u : ℕ) → last ≤ u → u < last + ticks → ring_at rings u ≡ [])
     → time_of_first (ring_at rings (last + ticks)) ≡ Some t → IsFirstNear rings last t
 found_near rings last ticks t below passed first = record { moment = last + ticks; from = omega arith; within = omega arith; first = first; before = passed }
 
-pub more_empty : (rings : List (List Event)) → ((i : ℕ) → get_or rings i [] ≡ []) → (i : ℕ) → get_or (rings ++ [] ∷ []) i [] ≡ []
-more_empty [] h zero = refl
-more_empty [] h (suc i) = refl
-more_empty (r ∷ rings) h zero = h zero
-more_empty (r ∷ rings) h (suc i) = more_empty rings (λ j. h (suc j)) i
+-- ---- what is given out
+
+pub later_first : (rings : List (List Event)) (later : ℕ → Option (List Event)) (last : ℕ) (es : List Event) (first : Option ℕ) → IsKept rings later last es
+    → ((u : ℕ) → last ≤ u → u < last + 256 → ring_at rings u ≡ []) → IfSome first (λ t. later t ≡ None → ⊥) → IfSome first (λ t. (u : ℕ) → u < t → later u ≡ None)
+    → IfNone first ((u : ℕ) → later u ≡ None) → first ≡ least_time es
+later_first rings later last es None k r there least none = sym (least_none rings later last es k r none)
+later_first rings later last es (Some t) k r there least none = sym (least_later rings later last t es k r there least)
+
+pub kept_some : (rings : List (List Event)) (later : ℕ → Option (List Event)) (t : ℕ) (es : List Event) → IsKept rings later t es → least_time es ≡ Some t
+    → ring_at rings t ≡ [] → ⊥
+kept_some rings later t es k l n = least_due t es l (sym (k.near t (omega arith) (omega arith)) ∙ n)
+
+pub given_due : (rings : List (List Event)) (later : ℕ → Option (List Event)) (t : ℕ) (es : List Event) (e : Event) (rest : List Event) → IsKept rings later t es
+    → ring_at rings t ≡ e ∷ rest → due_at t es ≡ e ∷ rest
+given_due rings later t es e rest k r = sym (k.near t (omega arith) (omega arith)) ∙ r
+
+pub kept_given : (rings next : List (List Event)) (later : ℕ → Option (List Event)) (t : ℕ) (es fewer : List Event) (e : Event) → IsKept rings later t es
+    → ring_at rings t ≡ e ∷ ring_at next t → next ≡ set rings (t % 256) (ring_at next t) → fewer ≡ without_first_at e.time es → IsKept next later t fewer
+kept_given rings next later t es fewer e k r s f =
+    let time : e.time ≡ t = first_time_is t es e (ring_at next t) (given_due rings later t es e (ring_at next t) k r) in
+    let left : fewer ≡ without_first_at t es = f ∙ ap (λ (u : ℕ). without_first_at u es) time in
+    subst (λ (rs : List (List Event)). IsKept rs later t fewer) (sym s)
+    (subst (λ (fs : List Event). IsKept (set rings (t % 256) (ring_at next t)) later t fs) (sym left) (kept_popped rings later t es e (ring_at next t) k r))
+
+pub first_given : (t : ℕ) (es : List Event) (e : Event) (rest : List Event) → due_at t es ≡ e ∷ rest → least_time es ≡ Some t
+    → (least_time es ≡ Some e.time) × (first_at e.time es ≡ Some e)
+first_given t es e rest d l =
+    let time : e.time ≡ t = first_time_is t es e rest d in
+    (l ∙ ap Some (sym time), ap (λ (u : ℕ). first_at u es) time ∙ first_is t es e rest d)
