@@ -18,16 +18,6 @@ due_here t e es h = grind (arith, nat_tests)
 due_passed : (t : ℕ) (e : Event) (es : List Event) → (e.time ≡ t → ⊥) → due_at t (e ∷ es) ≡ due_at t es
 due_passed t e es h = grind (arith, nat_tests)
 
--- ---- an event more
-
-pub due_more : (t : ℕ) (e : Event) (es : List Event) → e.time ≡ t → due_at t (es ++ e ∷ []) ≡ due_at t es ++ e ∷ []
-due_more t e [] h = due_here t e [] h
-due_more t e (f ∷ es) h = grind (arith, nat_tests, due_more t e es h)
-
-pub due_no_more : (t : ℕ) (e : Event) (es : List Event) → (e.time ≡ t → ⊥) → due_at t (es ++ e ∷ []) ≡ due_at t es
-due_no_more t e [] h = due_passed t e [] h
-due_no_more t e (f ∷ es) h = grind (arith, nat_tests, due_no_more t e es h)
-
 -- ---- an event less
 
 pub first_is : (t : ℕ) (es : List Event) (e : Event) (rest : List Event) → due_at t es ≡ e ∷ rest → first_at t es ≡ Some e
@@ -86,7 +76,3 @@ least_is t (f ∷ es) e rest d n = ap Some (le_antisymm (not_after (cases_lt t m
 pub none_is : (es : List Event) → ((t : ℕ) → due_at t es ≡ []) → es ≡ []
 none_is [] h = refl
 none_is (e ∷ es) h = absurd (differ (sym (due_here e.time e es refl) ∙ h e.time))
-
-pub nothing_is : (es : List Event) → least_time es ≡ None → es ≡ []
-nothing_is [] h = refl
-nothing_is (e ∷ es) h = absurd (cc)

@@ -12,7 +12,7 @@ use Rattle.sv_flat.specs.Effects.Ends.{not_due_to}
 use Rattle.sv_sched.specs.Future.{first_at, without_first_at, due_at}
 use Rattle.sv_sched.specs.Rings.{time_of_first, in_queue, queued, left_in, ring_at, IsKept, IsFirstNear}
 use Rattle.sv_sched.proofs.FutureLemmas.{AllFrom-least_time}
-use Rattle.sv_sched.proofs.DueLemmas.{due_more, due_no_more, first_is, first_time_is, left_is, other_left, filter-filter, none_before, least_due, least_is, none_is}
+use Rattle.sv_sched.proofs.DueLemmas.{first_is, first_time_is, left_is, other_left, filter-filter, none_before, least_due, least_is, none_is}
 
 -- ---- places
 
@@ -34,14 +34,6 @@ set_there rings t u es n = get_or-set_other rings (t % 256) (u % 256) es [] n
 
 -- ---- queues
 
-in_queued : (es : List Event) → in_queue (queued es) ≡ es
-in_queued [] = refl
-in_queued (e ∷ es) = refl
-
-queued_more : (es : List Event) (e : Event) → Some (es ++ e ∷ []) ≡ queued (es ++ e ∷ [])
-queued_more [] e = refl
-queued_more (f ∷ es) e = refl
-
 queued_none : (es : List Event) → queued es ≡ None → es ≡ []
 queued_none [] h = refl
 queued_none (e ∷ es) h = absurd (cc)
@@ -58,55 +50,6 @@ not_both : {q : List Event} {o : Option (List Event)} → o ≡ Some q → o ≡
 not_both h n = cc
 
 -- ---- what is kept
-
-pub kept_new : (rings : List (List Event)) (later : ℕ → Option (List Event)) → length rings ≡ 256 → ((i : ℕ) → get_or rings i [] ≡ []) → ((t : ℕ) → later t ≡ None)
-    → IsKept rings later 0 []
-kept_new rings later n r l = record {
-  count = n;
-  past = λ t h. refl;
-  near = λ t h k. r (t % 256);
-  far = λ t h. l t;
-  only_far = λ t h. l t;
-}
-
-pub kept_near : (rings : List (List Event)) (later : ℕ → Option (List Event)) (last : ℕ) (es : List Event) (e : Event) → IsKept rings later last es
-    → last ≤ e.time → e.time < last + 256 → IsKept (set rings (e.time % 256) (ring_at rings e.time ++ e ∷ [])) later last (es ++ e ∷ [])
-kept_near rings later last es e k from below = record {
-  count = length-set rings (e.time % 256) (ring_at rings e.time ++ e ∷ []) ∙ k.count;
-  past = λ t h. due_no_more t e es (λ s. omega arith) ∙ k.past t h;
-  near = λ t h i. at t h i (cases_eq t e.time);
-  far = λ t h. k.far t h ∙ ap queued (sym (due_no_more t e es (λ s. omega arith)));
-  only_far = k.only_far;
-}
-  where
-    at : (t : ℕ) → last ≤ t → t < last + 256 → (t ≡ e.time) ⊎ (t ≡ e.time → ⊥)
-        → ring_at (set rings (e.time % 256) (ring_at rings e.time ++ e ∷ [])) t ≡ due_at t (es ++ e ∷ [])
-    at t h i (inl s) =
-        set_here rings e.time t (ring_at rings e.time ++ e ∷ []) k.count s
-        ∙ ap (λ (u : ℕ). ring_at rings u ++ e ∷ []) (sym s) ∙ ap (λ (fs : List Event). fs ++ e ∷ []) (k.near t h i)
-        ∙ sym (due_more t e es (sym s))
-    at t h i (inr o) =
-        set_there rings e.time t (ring_at rings e.time ++ e ∷ []) (λ s. o (apart last t e.time h i from below s))
-        ∙ k.near t h i ∙ sym (due_no_more t e es (λ s. o (sym s)))
-
-pub kept_far : (rings : List (List Event)) (later after : ℕ → Option (List Event)) (last : ℕ) (es : List Event) (e : Event) → IsKept rings later last es
-    → last + 256 ≤ e.time → after e.time ≡ Some (in_queue (later e.time) ++ e ∷ []) → ((t : ℕ) → (t ≡ e.time → ⊥) → after t ≡ later t)
-    → IsKept rings after last (es ++ e ∷ [])
-kept_far rings later after last es e k from here others = record {
-  count = k.count;
-  past = λ t h. due_no_more t e es (λ s. omega arith) ∙ k.past t h;
-  near = λ t h i. k.near t h i ∙ sym (due_no_more t e es (λ s. omega arith));
-  far = λ t h. at t h (cases_eq t e.time);
-  only_far = λ t h. others t (λ s. omega arith) ∙ k.only_far t h;
-}
-  where
-    at : (t : ℕ) → last + 256 ≤ t → (t ≡ e.time) ⊎ (t ≡ e.time → ⊥) → after t ≡ queued (due_at t (es ++ e ∷ []))
-    at t h (inl s) =
-        ap after s ∙ here ∙ ap (λ (u : ℕ). Some (in_queue (later u) ++ e ∷ [])) (sym s)
-        ∙ ap (λ (o : Option (List Event)). Some (in_queue o ++ e ∷ [])) (k.far t h)
-        ∙ ap (λ (fs : List Event). Some (fs ++ e ∷ [])) (in_queued (due_at t es))
-        ∙ queued_more (due_at t es) e ∙ ap queued (sym (due_more t e es (sym s)))
-    at t h (inr o) = others t o ∙ k.far t h ∙ ap queued (sym (due_no_more t e es (λ s. o (sym s))))
 
 pub kept_popped : (rings : List (List Event)) (later : ℕ → Option (List Event)) (t : ℕ) (es : List Event) (e : Event) (rest : List Event) → IsKept rings later t es
     → ring_at rings t ≡ e ∷ rest → IsKept (set rings (t % 256) rest) later t (without_first_at t es)
@@ -273,14 +216,6 @@ coming_last rings later t es k n = record {
 }
 
 -- ---- the walks along the rings
-
-no_time : (es : List Event) → time_of_first es ≡ None → es ≡ []
-no_time [] h = refl
-no_time (e ∷ es) h = absurd (cc)
-
-below_more : (u v : ℕ) → (u < v) ⊎ (v ≤ u) → (u ≡ v → ⊥) → u < v + 1 → u < v
-below_more u v (inl l) o h = l
-below_more u v (inr l) o h = absurd (o (omega arith))
 
 -- what `rings[place]` gives
 pub read_ring : (rings : List (List Event)) (place t : ℕ) (ring : List Event) → length rings ≡ 256 → place ≡ t % 256 → get_or rings place ring ≡ ring → ring_at rings t ≡ ring
