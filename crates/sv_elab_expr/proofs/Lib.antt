@@ -1,0 +1,4 @@
+pub mod Contexts
+pub mod InRow
+pub mod Judged
+pub mod Widths

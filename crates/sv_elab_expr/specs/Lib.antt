@@ -1,0 +1,2 @@
+pub mod Concatenations
+pub mod Constants
