@@ -1,4 +1,2 @@
 pub mod Contexts
-pub mod InRow
 pub mod Judged
-pub mod Widths

@@ -11,9 +11,7 @@
 
 mod casts;
 mod choices;
-mod concatenations;
 mod constants;
-mod conversions;
 mod folding;
 mod literals;
 mod operands;
@@ -24,8 +22,6 @@ mod values;
 
 pub use casts::{atom_type, cast_number, converted, has_four_states, number_cast, sized};
 pub use choices::choose;
-pub use concatenations::{join, repeat, with_part};
-pub use conversions::cast;
 pub use folding::{alone, bits_of, folded, is_known, known_index};
 pub use literals::number;
 pub use operands::{index, item, number_index, number_operand, one_item, operand};
