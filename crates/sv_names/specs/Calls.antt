@@ -114,9 +114,18 @@ argument ar direction.Input t n a = input_argument ar a.at t (a.value n)
 argument ar direction.Output t n a = both t (target_argument n a) ▷ (λ p. written_argument ar false a.at p.0 p.1)
 argument ar direction.Inout t n a = both t (target_argument n a) ▷ (λ p. written_argument ar true a.at p.0 p.1)
 
+-- whether an argument is written
+abbrev pub is_output : Direction → Bool
+is_output direction.Input = false
+is_output d = true
+
+-- what an argument is where it is left out; a default is constant, so it is no target of an output
+abbrev pub usual_value : Formal → Option (Checked Typed)
+usual_value f = if is_output f.direction then None else f.default
+
 -- E31: too few arguments
 abbrev pub left_out : Around → Place → Formal → Checked (Hoisted Argument)
-left_out ar at f = found f.default
+left_out ar at f = found (usual_value f)
   where
     found : Option (Checked Typed) → Checked (Hoisted Argument)
     found None = broken_at 31 at
@@ -180,7 +189,7 @@ subroutine_called ar at is_value c o direct as' =
     given (λ p. A_call (call_form ar c o direct p.0) p.1) (both (arguments ar at 0 c.formals as') c.result)
     where_also call_stands ar at
     where_also rule 32 at (is_value && gives_nothing c.result)
-    where_also rule 27 at (ar.may_not_wait && c.is_task && not is_value)
+    where_also rule 27 at (ar.may_not_wait && c.is_task)
 
 -- ---- calls of methods of the language
 

@@ -62,8 +62,9 @@ type_named at (TypeName t) = Good t
 type_named at (ClassName p) = Good (Class p)
 type_named at n = broken_at 7 at
 
--- E7: the base of an enum is integral and no enum
+-- E7: the base of an enum is integral and no enum; an enum has bits
 abbrev pub enum_on : Path → Place → Place → Ty → Checked Ty
+enum_on p at pb (Bit_vector i None w) = Good (Enum p at i (whole i.width) w)
 enum_on p at pb (Bit_vector i b w) = Good (Enum p at i b w)
 enum_on p at pb t = broken_at 7 pb
 

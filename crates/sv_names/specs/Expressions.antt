@@ -117,11 +117,11 @@ bits_of at t as' = of_one at as' (λ a. of_type a t)
     of_type a None = bits_of_value at a
     of_type a (Some c) = c ▷ bits_of_type at a.at
 
--- `$signed` and `$unsigned` (11.7)
+-- `$signed` and `$unsigned` change no bit (11.7)
 abbrev pub signed_as : Place → Bool → Typed → Typed
 signed_as at s t =
-    let i = integral (width_of_type t.ty) s (is_four_state t.ty) in
-    value_typed (Bit_vector i None false) at t.is_constant (mapped (flat.Convert i) t.code)
+    value_typed (plain_vector (width_of_type t.ty) s (is_four_state t.ty)) at t.is_constant
+    (mapped (flat.Convert (integral (width_of_type t.ty) s true)) t.code)
 
 -- `$clog2` (20.8.1)
 abbrev pub logarithm : Place → Typed → Typed
@@ -162,6 +162,11 @@ cast_by_name ar pe pn at (ClassName k) e = e ▷ cast_to ar (Class k) pe at
 cast_by_name ar pe pn at n e =
     both (named_thing ar pn n ▷ thing_value ar pn ▷ constant_count pn) e ▷ (λ p. sized pe at p.0 p.1)
 
+-- a name that breaks a rule hides nothing of what stands behind it
+abbrev pub named_cast : Around → Place → Place → Place → Checked Named → Checked Typed → Checked Typed
+named_cast ar pe pn at (Good m) e = cast_by_name ar pe pn at m e
+named_cast ar pe pn at (Broken f) e = also_broken f (only e)
+
 -- a cast by what it is to
 abbrev pub cast_of : Around → CastType → Place → Place → Checked Typed → Checked Typed
 cast_of ar (cast.Vector p w) pe at e = e ▷ cast_to ar (plain_vector 1 false (vector_word_four_state w)) pe at
@@ -170,7 +175,7 @@ cast_of ar (cast.Text p) pe at e = e ▷ cast_to ar Text pe at
 cast_of ar (cast.Event p) pe at e = e ▷ cast_to ar Event pe at
 cast_of ar (cast.Semaphore p) pe at e = e ▷ cast_to ar Semaphore pe at
 cast_of ar (cast.Mailbox p) pe at e = e ▷ cast_to ar Mailbox pe at
-cast_of ar (cast.Named n) pe at e = both (meaning ar n) e ▷ (λ p. cast_by_name ar pe n.at at p.0 e)
+cast_of ar (cast.Named n) pe at e = named_cast ar pe n.at at (meaning ar n) e
 cast_of ar (cast.Width p text) pe at e = both (constant_count p (literal_typed p text)) e ▷ (λ q. sized pe at q.0 q.1)
 
 -- a target with a select that breaks a rule still names what it writes

@@ -250,12 +250,12 @@ joined a (p ∷ ps) =
     else plain_vector (width_of_type a.ty + width_of_type r.ty) false (is_four_state a.ty || is_four_state r.ty))
     a.at (a.is_constant && r.is_constant) (paired flat.Join a.code r.code)
 
--- one part alone is unsigned too
+-- one part alone is unsigned too, and keeps its x and z
 abbrev pub unsigned_part : Typed → Typed
 unsigned_part a =
     if is_text a.ty then a
     else value_typed (plain_vector (width_of_type a.ty) false (is_four_state a.ty)) a.at a.is_constant
-    (mapped (flat.Convert (integral (width_of_type a.ty) false (is_four_state a.ty))) a.code)
+    (mapped (flat.Convert (integral (width_of_type a.ty) false true)) a.code)
 
 -- one part, or several
 abbrev pub join_all : Placed → List Placed → Typed
@@ -302,16 +302,16 @@ cast_to ar (Bit_vector i b w) pe at t = number_cast (Bit_vector i b w) i pe at t
 cast_to ar (Enum s e i b w) pe at t = number_cast (Enum s e i b w) i pe at t
 cast_to ar to pe at t = one_item t ▷ (λ x. given (λ c. value_typed to pe x.is_constant c) (assigned ar to at x))
 
--- a number as one of a width, extended likewise, which keeps its sign
+-- a number as one of a width, extended likewise, which keeps its sign, and its x and z
 abbrev pub sized_as : Place → ℕ → Typed → Typed
 sized_as pe n x =
     value_typed (selectable n (sign_of_type x.ty) (is_four_state x.ty)) pe x.is_constant
-    (mapped (flat.Convert (integral n (sign_of_type x.ty) (is_four_state x.ty))) (widened n x))
+    (mapped (flat.Convert (integral n (sign_of_type x.ty) true)) (widened n x))
 
--- E13, E15: a cast to a width
+-- E13, E16: a cast to a width
 abbrev pub sized : Place → Place → ℕ → Typed → Checked Typed
 sized pe at n t =
-    not_too_wide pe n ▷ (λ _. number_operand at t ▷ (λ x. Good (sized_as pe n x)))
+    not_too_wide pe n ▷ (λ _. one_item t ▷ (λ x. if is_integral x.ty then Good (sized_as pe n x) else broken_at 16 at))
 
 -- `bit` has two states
 abbrev pub vector_word_four_state : VectorWord → Bool

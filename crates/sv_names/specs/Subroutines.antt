@@ -41,13 +41,13 @@ use Rattle.sv_names.specs.Hoisted.{mapped, in_row}
 use Rattle.sv_names.specs.Named.{Around, class_in, in_known, raised}
 use Rattle.sv_names.specs.Targets.{Spot}
 use Rattle.sv_names.specs.Formats.{Arg, values_stand}
-use Rattle.sv_names.specs.Calls.{as_input}
+use Rattle.sv_names.specs.Calls.{as_input, usual_value}
 use Rattle.sv_names.specs.Things.{this_typed, field_typed}
 use Rattle.sv_names.specs.Expressions.{actual_args}
 use Rattle.sv_names.specs.Entries.{Taken, taken, is_task, has_result, subroutine_is_automatic, twice, this_name}
 use Rattle.sv_names.specs.Declarations.{result_of_life}
 use Rattle.sv_names.specs.Scopes.{callee_stands, known_stand, scope_of, callee_within, all_entries, subroutine_scope}
-use Rattle.sv_names.specs.Code.{Numbered, Code, changed, empty, single, locals_of, with_objects, home_of, object_at}
+use Rattle.sv_names.specs.Code.{Numbered, Code, changed, empty, single, locals_of, with_objects, home_of, object_at, decimal}
 use Rattle.sv_names.specs.Assignments.{constructor_in, with_constructor, assignment}
 use Rattle.sv_names.specs.Blocks.{end_label, decls_code, in_sequence}
 use Rattle.sv_names.specs.Statements.{stmts, place_from, result_variable}
@@ -59,13 +59,17 @@ pub record MadeSubroutine : Type 0 where
 
 -- ---- what a subroutine sees
 
+-- the path of the result variable, which is neither that of a variable nor that of a block
+abbrev pub result_path : Path → Path
+result_path s = s ++ decimal 0 ∷ []
+
 -- a function knows its own name, with its result variable
 abbrev pub itself : Scope → Callee → Bool → Known
 itself s c auto =
     record {
       name = c.name;
       kind = Of_object;
-      value = given (λ t. Itself c (result_of_life auto (s.path ++ c.name.text ∷ []) t)) c.result;
+      value = given (λ t. Itself c (result_of_life auto (result_path s.path) t)) c.result;
     }
 
 -- what the statements see
@@ -241,7 +245,7 @@ super_code i at pe base as' (Some k) =
 -- E40: a base constructor needs arguments and none are given
 abbrev pub needs_arguments : List FormalArgument → Bool
 needs_arguments [] = false
-needs_arguments (f ∷ fs) = lacks f.default || needs_arguments fs
+needs_arguments (f ∷ fs) = lacks (usual_value f) || needs_arguments fs
   where
     lacks : Option (Checked Typed) → Bool
     lacks None = true

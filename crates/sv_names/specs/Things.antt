@@ -1,5 +1,5 @@
 -- What a name with its members and calls stands for (IEEE 1800-2017, 6, 8, 13.5 and 14).
-use Rattle.std.specs.Prelude.{ℕ, suc, Bool, true, false, ◌||◌, List, [], ◌∷◌, Option, Some, None, if◌then◌else◌, codes, length}
+use Rattle.std.specs.Prelude.{ℕ, suc, Bool, true, false, ◌&&◌, ◌||◌, ◌==◌, List, [], ◌∷◌, Option, Some, None, if◌then◌else◌, codes, length}
 use Rattle.sv_value.specs.declared.place.Place.{Place}
 use Rattle.sv_value.specs.declared.operator.BinOp.TheVariants as bin
 use Rattle.sv_value.specs.Vector.{vector, symbols_of}
@@ -182,11 +182,17 @@ named_thing ar at (Itself c n) = of_result (variable_typed ar at (result_named n
   where
     of_result : Option Typed → Checked Thing
     of_result None = subroutine_thing ar at c (at_hand ar at) false
-    of_result (Some v) = lasts ar at ▷ (λ _. Good (Its_result c (at_hand ar at) (as_result v v.target.begins) at))
+    of_result (Some v) = Good (Its_result c (at_hand ar at) (as_result v v.target.begins) at)
 named_thing ar at (ClockingBlock p ss) = Good (A_block p ss at)
 named_thing ar at Other = broken_at 7 at
 
 -- ---- members of objects and classes
+
+-- a constant behind an object, which is not looked at; its calls run
+abbrev pub after_object : Option Typed → Typed → Typed
+after_object None t = t
+after_object (Some o) t =
+    record t { is_constant = t.is_constant && (length o.code.hidden == 0); code = mapped (λ e. t.code.value) o.code }
 
 -- E36, E37, E39: a member, with its object where there is one; `super` and `::` name the method itself
 abbrev pub member_thing : Around → Place → Option Typed → Bool → Named → Checked Thing
@@ -196,7 +202,7 @@ member_thing ar at o direct (StaticProperty k g p t) =
     may_be_named ar g k at ▷ (λ _. lasts ar at ▷ (λ _.
     Good (A_value (through_reference (not_at_hand o) (object_typed ar at p t (A_static_property p))))))
 member_thing ar at o direct (Subroutine c) = subroutine_thing ar at c o direct
-member_thing ar at o direct (Constant t p) = Good (A_value (constant_named at p t))
+member_thing ar at o direct (Constant t p) = Good (A_value (after_object o (constant_named at p t)))
 member_thing ar at o direct n = broken_at 7 at
 
 -- E36: a member by its name
@@ -259,12 +265,17 @@ bare_subroutine ar pe c o direct at None =
     if c.is_task || gives_nothing c.result then bare_call ar pe (subroutine_called ar pe true c o direct []) else broken_at 7 at
 bare_subroutine ar pe c o direct at (Some k) = bare_call ar pe (subroutine_called ar pe true c o direct [])
 
+-- E7, E51: the result variable of an automatic function is one of the activation
+abbrev pub result_value : Around → Place → Typed → Begin → Checked Typed
+result_value ar at v InActivation = if ar.is_initial then broken_at 7 at else lasts ar at ▷ (λ _. Good v)
+result_value ar at v b = Good v
+
 -- a thing as a value; the place is that of the expression
 abbrev pub thing_value : Around → Place → Thing → Checked Typed
 thing_value ar pe (A_value t) = Good t
 thing_value ar pe (A_subroutine c o direct at) = bare_subroutine ar pe c o direct at c.class
 thing_value ar pe (A_method m o at) = bare_call ar pe (method_called ar pe true m o [])
-thing_value ar pe (Its_result c o v at) = Good v
+thing_value ar pe (Its_result c o v at) = result_value ar at v v.target.begins
 thing_value ar pe (A_block p ss at) = broken_at 7 at
 thing_value ar pe (The_signal b i s at) = signal_read ar b i s at
 thing_value ar pe (A_type t at) = broken_at 7 at

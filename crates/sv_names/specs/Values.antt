@@ -60,21 +60,19 @@ abbrev pub vector_of : Valued → Vector
 vector_of (Ok v) = vector_in v
 vector_of (Err k) = unsigned (X ∷ [])
 
--- the text of a value
-abbrev pub text_of : Valued → List ℕ
-text_of (Ok v) = text_in v
-text_of (Err k) = []
-
 -- the bits of a constant expression
 abbrev pub constant_vector : Typed → Vector
 constant_vector t = vector_of (value_of t.code.value nowhere)
 
--- a constant expression is a literal of its value
+-- a constant expression is a literal of its value; one that has none stays as it is
 abbrev pub literal_of : Ty → flat.Expr → flat.Expr
-literal_of (Bit_vector i b w) e = flat.Literal (vector_of (value_of e nowhere)) None
-literal_of (Enum s at i b w) e = flat.Literal (vector_of (value_of e nowhere)) None
-literal_of Text e = flat.Text (text_of (value_of e nowhere))
-literal_of t e = e
+literal_of t e = of_value t (value_of e nowhere)
+  where
+    of_value : Ty → Valued → flat.Expr
+    of_value (Bit_vector i b w) (Ok v) = flat.Literal (vector_in v) None
+    of_value (Enum s at i b w) (Ok v) = flat.Literal (vector_in v) None
+    of_value Text (Ok v) = flat.Text (text_in v)
+    of_value u r = e
 
 -- a constant in a context of its own
 abbrev pub folded : Bool → Ty → Hoisted flat.Expr → Hoisted flat.Expr

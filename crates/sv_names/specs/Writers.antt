@@ -5,8 +5,6 @@ use Rattle.sv_value.specs.declared.place.Place.{Place}
 use Rattle.sv_tree.specs.declared.word.Name.{Name}
 use Rattle.sv_tree.specs.declared.word.ProcedureWord.{ProcedureWord}
 use Rattle.sv_tree.specs.declared.word.ProcedureWord.TheVariants as procedure
-use Rattle.sv_tree.specs.declared.word.Direction.{Direction}
-use Rattle.sv_tree.specs.declared.word.Direction.TheVariants as direction
 use Rattle.sv_tree.specs.Expr as tree
 use Rattle.sv_tree.specs.Expr.{place_of_root}
 use Rattle.sv_tree.specs.Stmt as tree_stmt
@@ -31,6 +29,7 @@ use Rattle.sv_names.specs.Named.{Around, meaning, is_derived, result_named}
 use Rattle.sv_names.specs.Targets.{Spot, type_of_target}
 use Rattle.sv_names.specs.Methods
 use Rattle.sv_names.specs.Formats.{Arg}
+use Rattle.sv_names.specs.Calls.{is_output}
 use Rattle.sv_names.specs.Things.{Thing, A_subroutine, A_method, Its_result, root_thing, dollar_in}
 use Rattle.sv_names.specs.Expressions.{args, actual_args, things, target, target_in, before_select, as_expr, with_dollar, System, Cast, system_of}
 use Rattle.sv_names.specs.Blocks.{inner_scope, inside, first_name, after_scopes, scopes_made}
@@ -88,11 +87,6 @@ callee_touches c (Some o) direct = by o.ty
     by (Class p) =
         if c.is_virtual && not direct && not c.is_static then Calls_virtual p c.name.text ∷ [] else Calls c.path ∷ []
     by t = Calls c.path ∷ []
-
--- whether an argument is written
-abbrev pub is_output : Direction → Bool
-is_output direction.Input = false
-is_output d = true
 
 -- the targets among the arguments
 abbrev pub output_touches : List Formal → List Arg → List Touch
