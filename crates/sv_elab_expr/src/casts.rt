@@ -1,12 +1,12 @@
-// Casts of numbers (IEEE 1800-2017, 6.24.1): E13, E15, E16.
-ghost use Rattle.std.specs.Prelude.{◌≡◌, false, IfOk, IfErr};
+// Casts of numbers (IEEE 1800-2017, 6.24.1): E13, E16, E42.
+ghost use Rattle.std.specs.Prelude.{◌≡◌, false, if◌then◌else◌, IfOk, IfErr};
 ghost use Rattle.sv_flat.specs.Expr as flat;
 ghost use Rattle.sv_names.specs.declared.checked.Checked.{Checked as checked};
 ghost use Rattle.sv_names.specs.declared.checked.Checked.TheVariants.{Good};
 ghost use Rattle.sv_names.specs.declared.typed.Typed.{Typed as typed};
 ghost use Rattle.sv_names.specs.declared.ty.Ty.TheVariants as ty;
 ghost use Rattle.sv_names.specs.Named.{Around as around};
-ghost use Rattle.sv_names.specs.Checked.{◌▷◌};
+ghost use Rattle.sv_names.specs.Checked.{◌▷◌, broken_at};
 ghost use Rattle.sv_names.specs.declared.refusal.Refusal.TheVariants.{Memory};
 ghost use Rattle.sv_names.specs.Hoisted as hoisted;
 ghost use Rattle.sv_names.specs.Operators as operators;
@@ -14,7 +14,7 @@ ghost use Rattle.sv_names.specs.Types as types;
 ghost use Rattle.sv_names.specs.Values as values;
 ghost use Rattle.sv_names.specs.Given.{Gives};
 
-use crate::operands::{number_operand, one_item};
+use crate::operands::one_item;
 use crate::operators::expr_of;
 use crate::parts::value_typed;
 use crate::values::{not_too_wide, widened};
@@ -60,11 +60,7 @@ pub fn atom_type(word: AtomWord) -> Integral
 }
 
 /// The code of a conversion.
-pub fn converted(
-    alloc: Global,
-    to: Integral,
-    code: Hoisted<Expr>,
-) -> Result<Hoisted<Expr>, Refusal>
+pub fn converted(alloc: Global, to: Integral, code: Hoisted<Expr>) -> Result<Hoisted<Expr>, Refusal>
     ensures ok { IfOk result (λ c. c ≡ hoisted.mapped (flat.Convert to) code) }
     ensures err { IfErr result (λ e. e ≡ Memory) }
 {
@@ -117,7 +113,7 @@ pub fn number_cast(
     }
 }
 
-/// A number as one of a width, which keeps its sign.
+/// A number as one of a width, which keeps its sign, and its x and z.
 fn sized_as(alloc: Global, place: Place, width: u32, t: Typed) -> Result<Typed, Refusal>
     ensures { Gives result (Good (operators.sized_as place width t)) }
 {
@@ -125,7 +121,7 @@ fn sized_as(alloc: Global, place: Place, width: u32, t: Typed) -> Result<Typed, 
     let four_state = t.ty.is_four_state();
     let is_constant = t.is_constant;
     let code = widened(alloc, width, t)?;
-    let code = converted(alloc, integral(width, signed, four_state), code)?;
+    let code = converted(alloc, integral(width, signed, true), code)?;
     Ok(value_typed(
         alloc,
         selectable(width, signed, four_state),
@@ -135,37 +131,32 @@ fn sized_as(alloc: Global, place: Place, width: u32, t: Typed) -> Result<Typed, 
     ))
 }
 
-/// E13, E15, E42: a cast to a width.
-pub fn sized(
+/// A number as one of a width, where it is no array.
+fn sized_item(
     alloc: Global,
     place: Place,
     at: Place,
     width: u64,
-    t: Typed,
+    e: Typed,
 ) -> Result<Typed, Refusal>
-    ensures { Gives result (operators.sized place at width t) }
+    ensures { Gives result (values.one_item e ▷ (λ x. if types.is_integral x.ty then Good (operators.sized_as place width x) else broken_at 16 at)) }
 {
-    match not_too_wide(place, width) {
-        Ok(()) => sized_number(alloc, place, at, width, t),
-        Err(e) => Err(e),
+    let t = one_item(e)?;
+    if !t.ty.is_integral() {
+        return Err(Refusal::Rule { rule: 16, at });
+    }
+    match u32::try_from(width) {
+        Ok(width) => sized_as(alloc, place, width, t),
+        Err(_) => Err(Refusal::Memory),
     }
 }
 
-/// E15, E42: a number as one of a width.
-fn sized_number(
-    alloc: Global,
-    place: Place,
-    at: Place,
-    width: u64,
-    t: Typed,
-) -> Result<Typed, Refusal>
-    ensures { Gives result (values.number_operand at t ▷ (λ x. Good (operators.sized_as place width x))) }
+/// E13, E16, E42: a cast to a width.
+pub fn sized(alloc: Global, place: Place, at: Place, width: u64, t: Typed) -> Result<Typed, Refusal>
+    ensures { Gives result (operators.sized place at width t) }
 {
-    let Ok(width) = u32::try_from(width) else {
-        return Err(Refusal::Memory);
-    };
-    match number_operand(at, t) {
-        Ok(t) => sized_as(alloc, place, width, t),
+    match not_too_wide(place, width) {
+        Ok(()) => sized_item(alloc, place, at, width, t),
         Err(e) => Err(e),
     }
 }
@@ -182,11 +173,18 @@ pub fn cast_number(
     ensures { (ar : around) (x : checked typed) → Gives e x → Gives result (x ▷ operators.cast_to ar (ty.Vector to bounds false) place at) }
 {
     match e {
-        Ok(t) => number_cast(alloc, Ty::Vector {
+        Ok(t) => number_cast(
+            alloc,
+            Ty::Vector {
                 integral: to,
                 bounds,
                 is_written: false,
-            }, to, place, at, t),
+            },
+            to,
+            place,
+            at,
+            t,
+        ),
         Err(e) => Err(e),
     }
 }

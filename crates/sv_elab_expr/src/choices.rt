@@ -70,14 +70,7 @@ fn choose_expr(alloc: Global, condition: Expr, yes: Expr, no: Expr) -> Result<Ex
     ensures ok { IfOk result (λ e. e ≡ flat.Choose condition yes no) }
     ensures err { IfErr result (λ e. e ≡ Memory) }
 {
-    expr_of(
-        alloc,
-        ExprForm::Choose {
-            condition,
-            yes,
-            no,
-        },
-    )
+    expr_of(alloc, ExprForm::Choose { condition, yes, no })
 }
 
 /// The code of a choice.

@@ -34,9 +34,11 @@ fn within(context: Context, value: Bits) -> Result<Bits, Refusal>
 {
     if 1 <= context.width && context.width <= WIDEST {
         let own = value.width();
-        Ok(value
-            .resize(own, context.signed)
-            .resize(context.width, context.signed))
+        Ok(
+            value
+                .resize(own, context.signed)
+                .resize(context.width, context.signed),
+        )
     } else {
         Err(Refusal::Memory)
     }

@@ -6,6 +6,7 @@ ghost use Rattle.sv_flat.specs.Expr as flat;
 ghost use Rattle.sv_flat.specs.Eval as eval;
 ghost use Rattle.sv_names.specs.declared.refusal.Refusal.TheVariants.{Memory};
 ghost use Rattle.sv_names.specs.Values as values;
+ghost use Rattle.sv_elab_expr.specs.Constants.{number_literal, text_literal};
 
 use crate::constants::value_alone;
 use crate::operators::expr_of;
@@ -60,17 +61,18 @@ fn literal(alloc: Global, value: Bits) -> Result<Expr, Refusal>
 }
 
 /// A constant number as a literal.
+#[tactic(auto, using(crate::proofs::LiteralLaws::number_folded))]
 fn folded_number(alloc: Global, e: Expr) -> Result<Expr, Refusal>
-    ensures ok { IfOk result (λ x. x ≡ flat.Literal (values.vector_of (eval.value_of e values.nowhere)) None) }
+    ensures ok { IfOk result (λ x. x ≡ number_literal (eval.value_of e values.nowhere) e) }
     ensures err { IfErr result (λ e. e ≡ Memory) }
 {
-    let value = bits_of(&e)?;
+    let value = value_alone(&e)?;
     literal(alloc, value)
 }
 
 /// A constant string as a literal. Strings that are no literals are not written yet.
 fn folded_text(e: Expr) -> Result<Expr, Refusal>
-    ensures ok { IfOk result (λ x. x ≡ flat.Text (values.text_of (eval.value_of e values.nowhere))) }
+    ensures ok { IfOk result (λ x. x ≡ text_literal (eval.value_of e values.nowhere) e) }
     ensures err { IfErr result (λ e. e ≡ Memory) }
 {
     match &*e.form {

@@ -31,6 +31,6 @@ pub use operators::{
 pub use parts::{code_of, paired, pure, value_typed};
 pub use table::{expr, place_of};
 pub use values::{
-    assigned_if, constant, constant_count, constant_number, container_assigned, not_too_wide, number_assigned,
-    widened,
+    assigned_if, constant, constant_count, constant_number, container_assigned, not_too_wide,
+    number_assigned, widened,
 };

@@ -152,7 +152,15 @@ pub fn expr(alloc: Global, e: &Expr, around: &Around) -> Result<Typed, Refusal>
             let a = expr(alloc, yes, &first);
             let second = after(&first, &a)?;
             let b = expr(alloc, no, &second);
-            choose(alloc, place_of(condition), place_of(yes), place_of(no), c, a, b)
+            choose(
+                alloc,
+                place_of(condition),
+                place_of(yes),
+                place_of(no),
+                c,
+                a,
+                b,
+            )
         }
         _ => Err(Refusal::Memory),
     }

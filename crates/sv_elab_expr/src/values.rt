@@ -156,12 +156,7 @@ pub fn number_assigned(
 }
 
 /// E16: a value that fits.
-pub fn assigned_if(
-    alloc: Global,
-    fits: bool,
-    at: Place,
-    t: Typed,
-) -> Result<Hoisted<Expr>, Refusal>
+pub fn assigned_if(alloc: Global, fits: bool, at: Place, t: Typed) -> Result<Hoisted<Expr>, Refusal>
     ensures { Gives result (values.assigned_if fits at t) }
 {
     if fits {
