@@ -1,9 +1,8 @@
 -- Constants, and values for targets, arguments and conditions (IEEE 1800-2017, 6.22, 10.8 and 11.2.1).
 use Rattle.std.specs.Prelude.{ℕ, zero, suc, Bool, true, false, not, ◌&&◌, ◌||◌, List, [], ◌∷◌, Option, Some, None, Ok, Err, if◌then◌else◌, nat_lt, ℤ, pos, negsuc}
-use Rattle.sv_value.specs.declared.word.TheConstants.{WIDEST}
 use Rattle.sv_value.specs.declared.word.Sym.TheVariants.{X}
 use Rattle.sv_value.specs.declared.place.Place.{Place}
-use Rattle.sv_value.specs.Vector.{Vector, unsigned}
+use Rattle.sv_value.specs.Vector.{Vector, unsigned, widest}
 use Rattle.sv_flat.specs.declared.target.Base.TheVariants as base
 use Rattle.sv_flat.specs.Expr as flat
 use Rattle.sv_flat.specs.State.{View, no_value}
@@ -127,7 +126,7 @@ constant_count at t = constant_number at t ▷ count_from at
 
 -- E13: no more than 64 bits
 abbrev pub not_too_wide : Place → ℕ → Checked (Unit {0})
-not_too_wide at w = rule 13 at (nat_lt WIDEST w)
+not_too_wide at w = rule 13 at (nat_lt widest w)
 
 -- ---- E16, E17, E42: a value for a target, argument or result
 
