@@ -118,17 +118,22 @@ module _ {A S : Type 0} (index : IndexMap (Vec ℕ A) ℕ S) (ks : List Known) (
   declared-none up none = declared-first up 0 x ks ∙ ap (at up ks (places_from 0 ks)) (sym (is x) ∙ none)
 
   -- one that is known is declared within the list
-  pub declared-within : (i : ℕ) → get_by (λ k. same_bytes x k.items) index ≡ Some i → i < length ks
-  declared-within i some = subst (λ n. i < n) (length-map ks (λ k. k.name.text)) (subst (λ r. IfSome r (λ i. i < length (names_of ks))) (sym (is x) ∙ some) (first-within x (names_of ks)))
+  within : (i : ℕ) → get_by (λ k. same_bytes x k.items) index ≡ Some i → i < length ks
+  within i some = subst (λ n. i < n) (length-map ks (λ k. k.name.text)) (subst (λ r. IfSome r (λ i. i < length (names_of ks))) (sym (is x) ∙ some) (first-within x (names_of ks)))
+
+  pub declared-within : (i : ℕ) (items : List Known) → get_by (λ k. same_bytes x k.items) index ≡ Some i → items ≡ ks → i < length items
+  declared-within i items some same = subst (λ l. i < length l) (sym same) (within i some)
+
+  -- and so within the places
+  pub placed-within : (i : ℕ) (ps : List ℕ) → get_by (λ k. same_bytes x k.items) index ≡ Some i → ps ≡ places_from 0 ks → i < length ps
+  placed-within i ps some listed = subst (λ n. i < n) (sym (ap length listed ∙ length-places_from 0 ks)) (within i some)
 
   -- there, and at the place that is listed
   pub declared-some : (up i : ℕ) (k : Known) (ps : List ℕ) → get_by (λ k. same_bytes x k.items) index ≡ Some i → ps ≡ places_from 0 ks
       → get_or ks i k ≡ k → declared_in up 0 x ks ≡ Some (record { up = up; place = get_or ps i 0; known = k })
   declared-some up i k ps some listed read =
-      let within = declared-within i some in
-      let long : length ks ≡ length ps = sym (ap length listed ∙ length-places_from 0 ks) in
-      let place : slice_get ps i ≡ Some (get_or ps i 0) = slice_get-get_or ps i 0 (subst (λ n. i < n) long within) in
-      let there : slice_get ks i ≡ Some k = slice_get-get_or ks i k within ∙ ap Some read in
+      let place : slice_get ps i ≡ Some (get_or ps i 0) = slice_get-get_or ps i 0 (placed-within i ps some listed) in
+      let there : slice_get ks i ≡ Some k = slice_get-get_or ks i k (within i some) ∙ ap Some read in
       declared-first up 0 x ks ∙ ap (at up ks (places_from 0 ks)) (sym (is x) ∙ some)
       ∙ located-get up i ks (places_from 0 ks) k (get_or ps i 0) there (subst (λ l. slice_get l i ≡ Some (get_or ps i 0)) listed place)
 

@@ -14,11 +14,20 @@ use std::vec;
 use sv_value::{NoMemory, Seq};
 
 /// The declarations of a scope in order. They are seen as their list; a name is found in a time that does not grow with it.
-#[derive(Drop)]
 pub struct Declarations {
     items: Seq<Known>,
     index: NameIndex,
     places: Seq<u32>,
+}
+
+impl Drop for Declarations {
+    fn drop(self) {
+        let Declarations {
+            items: _,
+            index: _,
+            places: _,
+        } = self;
+    }
 }
 
 impl Model for Declarations {

@@ -1,34 +1,26 @@
-use Rattle.std.proofs.Common.{◌≡◌, ◌<◌, length, rules, Some, None, sym, ap, subst, ◌∙◌}
+use Rattle.std.proofs.Common.{◌≡◌, length, rules, Some, None, sym, subst, ◌∙◌}
 use Rattle.std.proofs.Math.Facts.{Fits-of_lt}
 use Rattle.std.specs.Prelude.{slice_index_or}
 use Rattle.sv_names.specs.Named.{declared_in}
-use Rattle.sv_names.proofs.IndexLemmas.{declared-none, declared-some, declared-within, length-places_from, offset_within}
+use Rattle.sv_names.proofs.IndexLemmas.{declared-none, declared-some, declared-within, placed-within, offset_within}
 use Rattle.sv_names.proofs.declarations.declared_in.Goals as goal
 
 pub bounds-items-position : goal.bounds-items-position
 bounds-items-position c =
-    let kept = c.known.inside in
-    let within = declared-within kept.index kept.items c.known.invariant.0 c.args.name.now _ (sym c.in-Some.ensures.value) in
-    subst (λ ks. c.in-Some.position.now < length ks) (sym c.as_slice-items.ensures) within
+    declared-within c.known.inside.index c.known.inside.items c.known.invariant.0 c.args.name.now c.in-Some.position.now c.as_slice-items.result.now (sym c.in-Some.ensures.value) c.as_slice-items.ensures
 
 pub bounds-places-position : goal.bounds-places-position
 bounds-places-position c =
-    let kept = c.known.inside in
-    let within = declared-within kept.index kept.items c.known.invariant.0 c.args.name.now _ (sym c.in-Some.ensures.value) in
-    subst (λ n. c.in-Some.position.now < n) (sym (ap length (c.as_slice-places.ensures ∙ c.known.invariant.1) ∙ length-places_from 0 kept.items)) within
+    placed-within c.known.inside.index c.known.inside.items c.known.invariant.0 c.args.name.now c.in-Some.position.now c.as_slice-places.result.now (sym c.in-Some.ensures.value) (c.as_slice-places.ensures ∙ c.known.invariant.1)
 
 pub offset_bounds-items-position : goal.offset_bounds-items-position
 offset_bounds-items-position c =
-    let kept = c.known.inside in
-    let within = declared-within kept.index kept.items c.known.invariant.0 c.args.name.now _ (sym c.in-Some.ensures.value) in
-    let below = subst (λ ks. c.in-Some.position.now < length ks) (sym c.as_slice-items.ensures) within in
+    let below = declared-within c.known.inside.index c.known.inside.items c.known.invariant.0 c.args.name.now c.in-Some.position.now c.as_slice-items.result.now (sym c.in-Some.ensures.value) c.as_slice-items.ensures in
     Fits-of_lt (offset_within c.in-Some.position.now (length c.as_slice-items.result.now) _ below c.as_slice-items.type_inv.1)
 
 pub offset_bounds-places-position : goal.offset_bounds-places-position
 offset_bounds-places-position c =
-    let kept = c.known.inside in
-    let within = declared-within kept.index kept.items c.known.invariant.0 c.args.name.now _ (sym c.in-Some.ensures.value) in
-    let below = subst (λ n. c.in-Some.position.now < n) (sym (ap length (c.as_slice-places.ensures ∙ c.known.invariant.1) ∙ length-places_from 0 kept.items)) within in
+    let below = placed-within c.known.inside.index c.known.inside.items c.known.invariant.0 c.args.name.now c.in-Some.position.now c.as_slice-places.result.now (sym c.in-Some.ensures.value) (c.as_slice-places.ensures ∙ c.known.invariant.1) in
     Fits-of_lt (offset_within c.in-Some.position.now (length c.as_slice-places.result.now) _ below c.as_slice-places.type_inv.1)
 
 pub returns-in-None : goal.returns-in-None
