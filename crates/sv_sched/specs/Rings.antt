@@ -29,11 +29,13 @@ left_in p (Some es) = queued (filter (not_due_to p) es)
 abbrev pub ring_at : List (List Event) → ℕ → List Event
 ring_at rings t = get_or rings (t % 256) []
 
--- 256 moments stand in the rings, and those after them in the map, each with what is due then
-pub record IsKept (rings : List (List Event)) (later : ℕ → Option (List Event)) (last : ℕ) (events : List Event) : Type 0 where
+-- 256 moments from the last on stand in the rings, and those after them in the map, each with what is due then;
+-- the rings after the latest moment that came into one are empty
+pub record IsKept (rings : List (List Event)) (latest : ℕ) (later : ℕ → Option (List Event)) (last : ℕ) (events : List Event) : Type 0 where
   pub count : length rings ≡ 256
   pub past : (t : ℕ) → t < last → due_at t events ≡ []
   pub near : (t : ℕ) → last ≤ t → t < last + 256 → ring_at rings t ≡ due_at t events
+  pub beyond : (t : ℕ) → last ≤ t → t < last + 256 → latest < t → ring_at rings t ≡ []
   pub far : (t : ℕ) → last + 256 ≤ t → later t ≡ queued (due_at t events)
   pub only_far : (t : ℕ) → t < last + 256 → later t ≡ None
 

@@ -38,7 +38,11 @@ fn first_near(later: &BTreeMap<u64, Queue>, time: u64) -> Option<u64>
 }
 
 /// An event comes into the queue of its moment, behind what is there.
-pub fn push_later(later: &mut BTreeMap<u64, Queue>, alloc: Global, event: Event) -> Result<(), NoMemory>
+pub fn push_later(
+    later: &mut BTreeMap<u64, Queue>,
+    alloc: Global,
+    event: Event,
+) -> Result<(), NoMemory>
     ensures here { OnOk result (get nat_cmp later.new event.time ≡ Some (in_queue (get nat_cmp later.old event.time) ++ event ∷ [])) }
     ensures others { OnOk result ((t : ℕ) → t ≢ event.time → get nat_cmp later.new t ≡ get nat_cmp later.old t) }
     ensures err { OnErr result ((t : ℕ) → get nat_cmp later.new t ≡ get nat_cmp later.old t) }
@@ -54,19 +58,27 @@ pub fn push_later(later: &mut BTreeMap<u64, Queue>, alloc: Global, event: Event)
 }
 
 /// The moments of the map that are among the 256 from this time on, which is the least, come into the rings. What was added
-/// for such a moment while it was far stands there before what comes directly.
-pub fn come_near(rings: &mut Vec<Queue>, later: &mut BTreeMap<u64, Queue>, time: u64)
+/// for such a moment while it was far stands there before what comes directly. Gives the latest moment of the rings.
+pub fn come_near(
+    rings: &mut Vec<Queue>,
+    latest: u64,
+    later: &mut BTreeMap<u64, Queue>,
+    time: u64,
+) -> u64
     requires { length rings.old.items ≡ 256 }
-    ensures kept { (last : ℕ) (es : List EventValue) → IsKept rings.old.items (get nat_cmp later.old) last es
-        → least_time es ≡ Some time → IsKept rings.new.items (get nat_cmp later.new) time es }
+    ensures kept { (last : ℕ) (es : List EventValue) → IsKept rings.old.items latest (get nat_cmp later.old) last es
+        → least_time es ≡ Some time → IsKept rings.new.items result (get nat_cmp later.new) time es }
     ensures count { length rings.new.items ≡ 256 }
 {
+    let mut reached = latest;
     while let Some(moment) = first_near(later, time) {
         let Some(queue) = later.remove(&moment) else {
             unreachable!()
         };
         put_near(rings, moment, queue);
+        reached = reached.max(moment);
     }
+    reached
 }
 
 /// What is scheduled in the map to resume a process goes, and the queues that are empty then.

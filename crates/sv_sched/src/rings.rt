@@ -34,13 +34,17 @@ fn place_after(time: u64, ticks: u64) -> usize
     ((time % 256 + ticks) % 256) as usize
 }
 
-/// The time of what stands first in the rings.
-pub fn near_time(rings: &[Queue], last: u64) -> Option<u64>
-    requires { length rings.now ≡ 256 }
+/// The time of what stands first in the rings. Those after the latest moment that came into one are empty.
+pub fn near_time(rings: &[Queue], last: u64, latest: u64) -> Option<u64>
+    requires count { length rings.now ≡ 256 }
+    requires beyond { (t : ℕ) → last ≤ t → t < last + 256 → latest < t → ring_at rings.now t ≡ [] }
     ensures found { IfSome result (λ t. IsFirstNear rings.now last t) }
     ensures none { IfNone result ((t : ℕ) → last ≤ t → t < last + 256 → ring_at rings.now t ≡ []) }
 {
     for ticks in 0..256u64 {
+        if latest.saturating_sub(last) < ticks {
+            return None;
+        }
         let ring = &rings[place_after(last, ticks)];
         if let Some(time) = ring.first_time() {
             return Some(time);

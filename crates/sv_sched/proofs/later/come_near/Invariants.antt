@@ -11,8 +11,8 @@ use Rattle.sv_sched.proofs.later.come_near.Given as goal
 abbrev pub invariant-loop-moment : goal.invariant-loop-moment
 invariant-loop-moment l = record {
   count : length l.rings.items ≡ 256;
-  coming : (last : ℕ) (es : List Event) → IsKept l.initial.rings.items (get nat_cmp l.initial.later) last es → least_time es ≡ Some l.time
-      → IsComing l.rings.items (get nat_cmp l.later) l.time es;
+  coming : (last : ℕ) (es : List Event) → IsKept l.initial.rings.items l.latest (get nat_cmp l.initial.later) last es → least_time es ≡ Some l.time
+      → IsComing l.rings.items l.reached (get nat_cmp l.later) l.time es;
 }
 
 abbrev pub decreases-loop-moment : goal.decreases-loop-moment
