@@ -1,3 +1,5 @@
 pub mod Contexts
+pub mod Escapes
+pub mod InRow
 pub mod Judged
 pub mod LiteralLaws

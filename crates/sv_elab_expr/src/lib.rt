@@ -11,17 +11,22 @@
 
 mod casts;
 mod choices;
+mod concatenations;
 mod constants;
+mod conversions;
 mod folding;
 mod literals;
 mod operands;
 mod operators;
 mod parts;
+mod strings;
 mod table;
 mod values;
 
 pub use casts::{atom_type, cast_number, converted, has_four_states, number_cast, sized};
 pub use choices::choose;
+pub use concatenations::{join, repeat, with_part};
+pub use conversions::cast;
 pub use folding::{alone, bits_of, folded, is_known, known_index};
 pub use literals::number;
 pub use operands::{index, item, number_index, number_operand, one_item, operand};
@@ -29,6 +34,7 @@ pub use operators::{
     binary, binary_typed, comparison, context_of, expr_of, kind_of, numbers, power, unary,
 };
 pub use parts::{code_of, paired, pure, value_typed};
+pub use strings::string;
 pub use table::{expr, place_of};
 pub use values::{
     assigned_if, constant, constant_count, constant_number, container_assigned, not_too_wide,

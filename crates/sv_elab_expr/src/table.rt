@@ -12,8 +12,10 @@ ghost use Rattle.sv_names.specs.Views.{around_in};
 ghost use Rattle.sv_names.specs.Given.{Gives};
 
 use crate::choices::choose;
+use crate::conversions::cast;
 use crate::literals::{null, number};
 use crate::operators::{binary, unary};
+use crate::strings::string;
 use std::alloc::Global;
 use sv_names::{Around, Refusal, Typed};
 use sv_tree::{BinaryWord, CastType, Expr, Root};
@@ -127,8 +129,13 @@ pub fn expr(alloc: Global, e: &Expr, around: &Around) -> Result<Typed, Refusal>
 {
     match e {
         Expr::Number(at, text) => number(alloc, *at, text.bytes()),
+        Expr::Text(at, text) => string(alloc, *at, text.bytes()),
         Expr::Null(at) => null(alloc, *at),
         Expr::Group(_, inner) => expr(alloc, inner, around),
+        Expr::Cast(to, operand) => {
+            let e = expr(alloc, operand, around);
+            cast(alloc, to, place_of_cast(to), place_of(operand), around, e)
+        }
         Expr::Unary { at, word, operand } => {
             let a = expr(alloc, operand, around);
             unary(alloc, *at, *word, place_of(operand), a)
@@ -147,8 +154,7 @@ pub fn expr(alloc: Global, e: &Expr, around: &Around) -> Result<Typed, Refusal>
         }
         Expr::Choose { condition, yes, no } => {
             let c = expr(alloc, condition, around);
-            let branch = without_calls(around);
-            let first = after(&branch, &c)?;
+            let first = after(&without_calls(around), &c)?;
             let a = expr(alloc, yes, &first);
             let second = after(&first, &a)?;
             let b = expr(alloc, no, &second);

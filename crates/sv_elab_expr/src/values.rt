@@ -2,6 +2,9 @@
 ghost use Rattle.std.specs.Prelude.{◌≡◌, ◌<◌, ℤ, IfOk, IfErr};
 ghost use Rattle.sv_flat.specs.Expr as flat;
 ghost use Rattle.sv_flat.specs.Eval as eval;
+ghost use Rattle.sv_names.specs.declared.checked.Checked.{Checked as checked};
+ghost use Rattle.sv_names.specs.declared.typed.Typed.{Typed as typed};
+ghost use Rattle.sv_names.specs.Checked.{◌▷◌};
 ghost use Rattle.sv_names.specs.declared.refusal.Refusal.TheVariants.{Memory};
 ghost use Rattle.sv_names.specs.Hoisted as hoisted;
 ghost use Rattle.sv_names.specs.Values as values;
@@ -78,6 +81,16 @@ pub fn constant_count(at: Place, t: &Typed) -> Result<u64, Refusal>
 {
     match constant_number(at, t) {
         Ok(number) => count_from(at, number),
+        Err(e) => Err(e),
+    }
+}
+
+/// A constant count, where it breaks no rule before.
+pub fn counted(at: Place, a: Result<Typed, Refusal>) -> Result<u64, Refusal>
+    ensures { (x : checked typed) → Gives a x → Gives result (x ▷ values.constant_count at) }
+{
+    match a {
+        Ok(t) => constant_count(at, &t),
         Err(e) => Err(e),
     }
 }
