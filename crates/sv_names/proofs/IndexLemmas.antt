@@ -1,5 +1,5 @@
 -- An index of names grows with them, and finds what the definition finds; names stay where values change.
-use Rattle.std.proofs.Common.{◌≡◌, ℕ, suc, zero, ◌+◌, ◌*◌, ◌^◌, ◌<◌, ◌≤◌, Bool, true, false, cond, List, [], ◌∷◌, ◌++◌, length, map, slice_get, Option, Some, None, option_map, is_some, IfSome, Vec, refl, sym, ap, subst, ◌∙◌, true≢false, arith}
+use Rattle.std.proofs.Common.{◌≡◌, ℕ, suc, zero, ◌+◌, ◌*◌, ◌^◌, ◌<◌, ◌≤◌, Bool, true, false, cond, List, [], ◌∷◌, ◌++◌, length, slice_get, Option, Some, None, option_map, is_some, IfSome, Vec, refl, sym, ap, subst, ◌∙◌, true≢false, arith}
 use Rattle.std.specs.Prelude.{get_or}
 use Rattle.std.proofs.Math.Nat.{mul-le-mul_right}
 use Rattle.std.proofs.lemmas.List.{length-map}
@@ -13,7 +13,7 @@ use Rattle.sv_names.specs.declared.named.Known.{Known}
 use Rattle.sv_names.specs.declared.checked.Checked.{Checked}
 use Rattle.sv_names.specs.Types.{same_bytes}
 use Rattle.sv_names.specs.Named.{further, local_size, Found, nearest, declared_in}
-use Rattle.sv_names.specs.Index.{names_of, first_of, places_from, IsIndexOf, first_value, more_values, with_values}
+use Rattle.sv_names.specs.Index.{names_of, first_of, places_from, IsIndexOf, more_values, with_values}
 
 chosen : (b : Bool) (v : ℕ) (r s o : Option ℕ) → r ≡ nearest s o → cond b (Some v) r ≡ nearest (cond b (Some v) s) o
 chosen true v r s o h = refl

@@ -28,7 +28,8 @@ fn add_name(
     name: &[u8],
     position: usize,
 ) -> Result<(), NoMemory>
-    ensures { (ns : List (List ℕ)) → length ns ≡ position → IsIndexOf index.old ns → OnOk result (IsIndexOf index.new (ns ++ name.now ∷ [])) }
+    ensures { (ns : List (List ℕ)) → length ns ≡ position → IsIndexOf index.old ns
+        → OnOk result (IsIndexOf index.new (ns ++ name.now ∷ [])) }
 {
     if index.contains_key(name) {
         return Ok(());
