@@ -1,7 +1,5 @@
 -- Escapes in string literals.
-use Rattle.std.proofs.Common.{ℕ, ◌≡◌, List, [], ◌∷◌, ◌++◌, true, false, refl, ap, sym, ◌∙◌, append_assoc}
-use Rattle.std.specs.Prelude.{◌==◌, if◌then◌else◌}
-use Rattle.sv_names.specs.Literals.{unescaped, escaped}
+use Rattle.std.proofs.Common.{ℕ, ◌≡◌, List, [], ◌∷◌, ◌++◌, append_assoc}
 
 -- a byte behind others
 pub one_more : (xs cs : List ℕ) (c : ℕ) → (xs ++ c ∷ []) ++ cs ≡ xs ++ c ∷ cs

@@ -1,12 +1,15 @@
 //! Typed expressions, or the first rule that they break (IEEE 1800-2017, 10.8 and 11).
 //!
-//! - `operands`, `operators`, `choices`, `casts`, `literals` have the forms: functions of what their parts give, each of which may break a
-//!   rule; of two broken rules the earlier one is told.
+//! - `operands`, `operators`, `choices`, `concatenations`, `casts`, `conversions`, `literals`, `strings` have the forms: functions of what
+//!   their parts give, each of which may break a rule; of two broken rules the earlier one is told.
 //! - `constants` has the values of constant numbers, `folding` the literals that stand for them.
 //! - `values` has constant numbers, and values for targets; `parts` what stands before a statement.
 //! - `table` goes through trees.
 //!
-//! Each function answers what its definition in `sv_names` gives, or that memory ran out. What is not written yet answers want of memory too.
+//! Each function answers what its definition in `sv_names` gives, or that memory ran out. What is not written yet answers want of memory too:
+//! in `expr` names with what follows them, system names, `super.new`, `$`, time literals, concatenations and replications; casts to a name;
+//! comparisons and `?:` of two references; constants with a literal that fills its context, a choice, a concatenation, a replication, a
+//! select, a string that is no literal, or `$clog2`; counts above 2^32 - 1; and widths that no vector has.
 #![tactic(auto)]
 
 mod casts;
