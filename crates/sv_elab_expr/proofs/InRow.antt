@@ -2,14 +2,12 @@
 use Rattle.std.proofs.Common.{◌≡◌, List, [], ◌∷◌, ◌++◌, refl, ap, sym, ◌∙◌, subst}
 use Rattle.sv_value.specs.declared.place.Place.{Place}
 use Rattle.sv_names.specs.declared.checked.Checked.{Checked}
-use Rattle.sv_names.specs.declared.checked.Checked.TheVariants.{Good, Broken}
+use Rattle.sv_names.specs.declared.checked.Checked.TheVariants.{Good}
 use Rattle.sv_names.specs.declared.refusal.Refusal.{Refusal}
 use Rattle.sv_names.specs.declared.typed.Typed.{Typed}
-use Rattle.sv_names.specs.Checked.{◌▷◌, all}
+use Rattle.sv_names.specs.Checked.{◌▷◌}
 use Rattle.sv_names.specs.Given.{Fails}
-use Rattle.sv_names.specs.Types.{is_text}
-use Rattle.sv_names.specs.Values.{not_too_wide}
-use Rattle.sv_names.specs.Operators.{Placed, joined, join_of, join_all, same_kind, widths_of}
+use Rattle.sv_names.specs.Operators.{Placed, joined, join_of}
 use Rattle.sv_elab_expr.specs.Concatenations.{join_two, joined_before, row_joined, whole_of, parts_stand}
 use Rattle.sv_elab_expr.proofs.Judged.{fails_then}
 
@@ -36,14 +34,10 @@ whole_is qs ps p h = sym (ap whole_of h ∙ row_is ps p)
 
 -- ---- the judgement before the value
 
-then_then : {A B C : Type 0} (c : Checked A) (f : A → Checked B) (g : B → Checked C) → (c ▷ f) ▷ g ≡ c ▷ (λ x. f x ▷ g)
-then_then (Good x) f g = refl
-then_then (Broken e) f g = refl
-
 -- a concatenation is judged, and then made
 join_is : (at : Place) (ps : List Placed) → parts_stand at ps ▷ (λ _. Good (whole_of ps)) ≡ join_of at ps
 join_is at [] = refl
-join_is at (p ∷ ps) = then_then (all (same_kind (is_text p.1.ty)) (p ∷ ps)) (λ _. not_too_wide at (widths_of (p ∷ ps))) (λ _. Good (join_all p ps))
+join_is at (p ∷ ps) = refl
 
 pub judged_first : (e : Refusal) (at : Place) (ps : List Placed) → Fails e (parts_stand at ps) → Fails e (join_of at ps)
 judged_first e at ps h = subst (λ (c : Checked Typed). Fails e c) (join_is at ps) (fails_then e (parts_stand at ps) (λ _. Good (whole_of ps)) h)

@@ -3,7 +3,7 @@ use Rattle.std.specs.Prelude.{ℕ, ◌+◌, ◌*◌, ◌&&◌, ◌||◌, true, f
 use Rattle.sv_flat.specs.Expr as flat
 use Rattle.sv_value.specs.declared.place.Place.{Place}
 use Rattle.sv_names.specs.declared.checked.Checked.{Checked}
-use Rattle.sv_names.specs.Checked.{broken_at, all, ◌▷◌}
+use Rattle.sv_names.specs.Checked.{broken_at}
 use Rattle.sv_names.specs.declared.typed.Typed.{Typed}
 use Rattle.sv_names.specs.declared.ty.Ty.{Ty}
 use Rattle.sv_names.specs.declared.ty.Ty.TheVariants.{Text}
@@ -11,7 +11,7 @@ use Rattle.sv_names.specs.Types.{is_text, is_four_state, width_of_type, plain_ve
 use Rattle.sv_names.specs.Named.{nowhere_yet}
 use Rattle.sv_names.specs.Hoisted.{pure, paired}
 use Rattle.sv_names.specs.Values.{value_typed, not_too_wide}
-use Rattle.sv_names.specs.Operators.{Placed, same_kind, widths_of, unsigned_part, join_all}
+use Rattle.sv_names.specs.Operators.{Placed, widths_of, unsigned_part, join_all}
 
 -- the type of two parts
 abbrev pub type_of_two : Ty → Ty → Ty
@@ -39,7 +39,7 @@ whole_of (p ∷ ps) = join_all p ps
 -- E13, E15: whether parts are one concatenation
 abbrev pub parts_stand : Place → List Placed → Checked (Unit {0})
 parts_stand at [] = broken_at 15 at
-parts_stand at (p ∷ ps) = all (same_kind (is_text p.1.ty)) (p ∷ ps) ▷ (λ _. not_too_wide at (widths_of (p ∷ ps)))
+parts_stand at (p ∷ ps) = not_too_wide at (widths_of (p ∷ ps))
 
 -- the type of a replication
 abbrev pub repeated_type : ℕ → Ty → Ty

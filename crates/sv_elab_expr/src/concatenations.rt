@@ -5,7 +5,7 @@ ghost use Rattle.sv_names.specs.declared.checked.Checked.{Checked as checked};
 ghost use Rattle.sv_names.specs.declared.checked.Checked.TheVariants.{Good};
 ghost use Rattle.sv_names.specs.declared.typed.Typed.{Typed as typed};
 ghost use Rattle.sv_names.specs.declared.refusal.Refusal.TheVariants.{Memory};
-ghost use Rattle.sv_names.specs.Checked.{◌▷◌, ◌where_also◌, given, all, both as both_of};
+ghost use Rattle.sv_names.specs.Checked.{◌▷◌, given, both as both_of};
 ghost use Rattle.sv_names.specs.Hoisted as hoisted;
 ghost use Rattle.sv_names.specs.Operators as operators;
 ghost use Rattle.sv_names.specs.Types as types;
@@ -77,47 +77,7 @@ pub fn with_part(
     }
 }
 
-// ---- strings alone, or numbers alone
-
-/// E15: the first part decides whether the others are strings.
-fn same_kind(texts: bool, part: &(Place, Typed)) -> Result<(), Refusal>
-    ensures { Gives result (operators.same_kind texts part.now) }
-{
-    let ty = &part.1.ty;
-    let differs = if texts {
-        ty.is_integral()
-    } else {
-        ty.is_text()
-    };
-    if differs {
-        Err(Refusal::Rule {
-            rule: 15,
-            at: part.0,
-        })
-    } else {
-        Ok(())
-    }
-}
-
-/// Two judgements.
-fn both_stand(a: Result<(), Refusal>, b: Result<(), Refusal>) -> Result<(), Refusal>
-    ensures { (x y : checked (Unit {0})) → Gives a x → Gives b y → Gives result (x where_also y) }
-{
-    match both(a, b) {
-        Ok(_) => Ok(()),
-        Err(e) => Err(e),
-    }
-}
-
-/// E15: each part is of the kind of the first.
-fn kinds_stand(texts: bool, parts: &[(Place, Typed)]) -> Result<(), Refusal>
-    ensures { Gives result (all (operators.same_kind texts) parts.now) }
-{
-    match parts {
-        [] => Ok(()),
-        [part, rest @ ..] => both_stand(same_kind(texts, part), kinds_stand(texts, rest)),
-    }
-}
+// ---- how wide they are
 
 /// How many bits the parts have.
 fn widths_of(parts: &[(Place, Typed)]) -> Result<u64, Refusal>
@@ -247,10 +207,7 @@ fn parts_stand(at: Place, parts: &[(Place, Typed)]) -> Result<(), Refusal>
 {
     match parts {
         [] => Err(Refusal::Rule { rule: 15, at }),
-        [part, ..] => match kinds_stand(part.1.ty.is_text(), parts) {
-            Ok(()) => width_stands(at, parts),
-            Err(e) => Err(e),
-        },
+        _ => width_stands(at, parts),
     }
 }
 
