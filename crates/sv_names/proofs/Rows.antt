@@ -9,4 +9,4 @@ mod Cycles
 mod Kinds
 mod Refused
 mod Varied
-mod Mended
+mod Finer
