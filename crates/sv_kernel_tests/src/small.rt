@@ -72,7 +72,12 @@ pub enum Item {
     Block(u64),
     Set(Variable, Source),
     SetLater(Variable, Source),
-    If(Variable, u64, u64),
+    /// The branches are routines by number.
+    If {
+        condition: Variable,
+        yes: u64,
+        no: u64,
+    },
     Forever(u64),
     Posedge(Variable),
     Finish,
@@ -98,7 +103,7 @@ fn form_of(alloc: Global, item: &Item) -> Result<Form, NoMemory> {
             delay: None,
             in_ticks: false,
         }),
-        Item::If(condition, yes, no) => Ok(Form::If {
+        Item::If { condition, yes, no } => Ok(Form::If {
             condition: value_of(alloc, *condition)?,
             yes: RoutineId(*yes),
             no: Some(RoutineId(*no)),
