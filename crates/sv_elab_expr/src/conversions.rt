@@ -12,11 +12,9 @@ ghost use Rattle.sv_names.specs.Expressions as expressions;
 ghost use Rattle.sv_names.specs.Views.{around_in};
 ghost use Rattle.sv_names.specs.Given.{Gives};
 
-use crate::casts::{atom_type, cast_number, has_four_states, sized};
-use crate::literals::number;
-use crate::parts::value_typed;
-use crate::values::{assigned_if, constant_count};
 use std::alloc::Global;
+use sv_elab_operator::{atom_type, cast_number, has_four_states, number, sized};
+use sv_elab_value::{assigned_if, constant_count, value_typed};
 use sv_names::{Around, Refusal, Ty, Typed, both, whole};
 use sv_tree::{AtomWord, CastType, VectorWord};
 use sv_value::{Integral, Place};

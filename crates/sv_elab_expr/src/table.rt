@@ -11,12 +11,9 @@ ghost use Rattle.sv_names.specs.Expressions as expressions;
 ghost use Rattle.sv_names.specs.Views.{around_in};
 ghost use Rattle.sv_names.specs.Given.{Gives};
 
-use crate::choices::choose;
 use crate::conversions::cast;
-use crate::literals::{null, number};
-use crate::operators::{binary, unary};
-use crate::strings::string;
 use std::alloc::Global;
+use sv_elab_operator::{binary, choose, null, number, string, unary};
 use sv_names::{Around, Refusal, Typed};
 use sv_tree::{BinaryWord, CastType, Expr, Root};
 use sv_value::Place;

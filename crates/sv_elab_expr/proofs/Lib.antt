@@ -1,5 +1,0 @@
-pub mod Contexts
-pub mod Escapes
-pub mod InRow
-pub mod Judged
-pub mod LiteralLaws

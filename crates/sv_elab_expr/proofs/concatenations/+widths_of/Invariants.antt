@@ -1,5 +1,0 @@
-use Rattle.std.proofs.Common.{length}
-use Rattle.sv_elab_expr.proofs.concatenations.+widths_of.Given as goal
-
-abbrev pub decreases-widths_of : goal.decreases-widths_of
-decreases-widths_of l = length l.parts.now

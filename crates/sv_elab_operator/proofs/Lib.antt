@@ -1,0 +1,3 @@
+pub mod Escapes
+pub mod InRow
+pub mod Judged
