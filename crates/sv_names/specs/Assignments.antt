@@ -42,8 +42,9 @@ use Rattle.sv_names.specs.Values.{value_typed, assigned, exactly, alone}
 use Rattle.sv_names.specs.Operators.{kind_of, binary_of, ticks_in, literal_typed}
 use Rattle.sv_names.specs.Selects.{container_of}
 use Rattle.sv_names.specs.Targets.{Spot, lvalues, type_of_target, read_of, beside, hidden_of_spots, hidden_in_target}
-use Rattle.sv_names.specs.Formats.{Arg, values_stand}
-use Rattle.sv_names.specs.Calls.{arguments, call_stands, wait_stands, may_be_named}
+use Rattle.sv_names.specs.declared.argument.Arg.{Arg}
+use Rattle.sv_names.specs.Arguments.{value_of_arg, values_stand}
+use Rattle.sv_names.specs.Calls.{arguments, outputs_of, call_stands, wait_stands, may_be_named}
 use Rattle.sv_names.specs.Expressions.{expr, actual_args, target, number_in}
 
 -- ---- delays
@@ -123,9 +124,24 @@ constructor_in k = in_known 0 0 (codes "new") k.scope.known
 -- E31, E37: the arguments of a constructor
 abbrev pub with_constructor : Around → Place → Path → List Arg → Option (Checked Named) → Checked (List (Hoisted Argument))
 with_constructor ar at k as' (Some (Good (Subroutine c))) =
-    arguments ar at 0 c.formals as' where_also may_be_named ar c.protection k at
+    arguments ar at c.formals as' where_also may_be_named ar c.protection k at
 with_constructor ar at k as' (Some (Broken f)) = Broken f
-with_constructor ar at k as' c = arguments ar at 0 [] as'
+with_constructor ar at k as' c = arguments ar at [] as'
+
+-- which arguments of a constructor are taken as targets
+abbrev pub outputs_of_constructor : Option (Checked Named) → List Bool
+outputs_of_constructor (Some (Good (Subroutine c))) = outputs_of c.formals
+outputs_of_constructor c = []
+
+-- the same of the constructor of a class
+abbrev pub outputs_of_class : Option ClassInfo → List Bool
+outputs_of_class None = []
+outputs_of_class (Some k) = outputs_of_constructor (constructor_in k)
+
+-- the same of `new` for a target of a type
+abbrev pub outputs_of_new : Around → Ty → List Bool
+outputs_of_new ar (Class p) = outputs_of_class (class_in ar.classes p)
+outputs_of_new ar t = []
 
 -- E35: `new` of a virtual class (8.21)
 abbrev pub constructed : Around → Place → Path → List Arg → Option ClassInfo → Checked (Hoisted CallForm)
@@ -137,7 +153,7 @@ constructed ar at p as' (Some k) =
 -- E31: a mailbox takes at most a bound, a semaphore a number of keys; 0 where nothing is given
 abbrev pub bound_given : Around → Place → List Arg → Checked (Hoisted flat.Expr)
 bound_given ar at [] = Good (pure (flat.Literal (vector true (symbols_of 32 0 0)) None))
-bound_given ar at (a ∷ []) = a.value 0 ▷ exactly ar int_type a.at
+bound_given ar at (a ∷ []) = value_of_arg a ▷ exactly ar int_type a.at
 bound_given ar at as' = broken_at 31 at where_also values_stand as'
 
 -- what `new` makes for a target of a type, in a hidden variable
@@ -205,7 +221,7 @@ array_given ar d at n old ss =
 -- what it breaks by itself
 abbrev pub init_alone : Around → Init → Checked (Unit {0})
 init_alone ar (tree_stmt.Value e) = only (expr ar e)
-init_alone ar (tree_stmt.New at a) = values_stand (actual_args ar a)
+init_alone ar (tree_stmt.New at a) = values_stand (actual_args ar [] a)
 init_alone ar (tree_stmt.Copy at n) = only (expr ar (tree.Post (root.Plain n) tree.NoSuffix))
 init_alone ar (tree_stmt.Array at n None) = only (expr ar n)
 init_alone ar (tree_stmt.Array at n (Some e)) = only (both (expr ar n) (expr ar e))
@@ -213,7 +229,8 @@ init_alone ar (tree_stmt.Array at n (Some e)) = only (both (expr ar n) (expr ar 
 -- what is written behind the `=` of an assignment
 abbrev pub init_given : Around → Option Amount → List Spot → Init → Checked (Hoisted Form)
 init_given ar d ss (tree_stmt.Value e) = expr ar e ▷ value_given ar d (place_of e) ss
-init_given ar d ss (tree_stmt.New at a) = new_given ar d at ss (actual_args ar a)
+init_given ar d ss (tree_stmt.New at a) =
+    new_given ar d at ss (actual_args ar (outputs_of_new ar (type_of_target ss)) a)
 init_given ar d ss (tree_stmt.Copy at n) = expr ar (tree.Post (root.Plain n) tree.NoSuffix) ▷ copy_given ar d at ss
 init_given ar d ss (tree_stmt.Array at n old) = array_given ar d at n old ss
 
@@ -367,7 +384,7 @@ abbrev pub initial_given : Around → Place → Ty → Init → Checked Initial
 initial_given ar at t (tree_stmt.Value e) =
     if is_fixed t then broken_at 42 at where_also only (expr ar e)
     else given (initial_value t) (expr ar e ▷ assigned ar t (place_of e))
-initial_given ar at t (tree_stmt.New p a) = new_at_opening ar at t p (actual_args ar a)
+initial_given ar at t (tree_stmt.New p a) = new_at_opening ar at t p (actual_args ar (outputs_of_new ar t) a)
 initial_given ar at t i = broken_at 25 (place_of_init i) where_also only (init_given ar None (at_name at t) i)
 
 -- E25: `new[n]` and `new h` are made at no opening, whatever the type

@@ -1,5 +1,5 @@
 -- Calls of subroutines, of methods and of `$cast` (IEEE 1800-2017, 8, 13 and 15).
-use Rattle.std.specs.Prelude.{ℕ, suc, Bool, true, false, not, ◌&&◌, ◌||◌, List, [], ◌∷◌, length, Option, Some, None, if◌then◌else◌, nat_lt, map, ◌++◌, ◌+◌}
+use Rattle.std.specs.Prelude.{ℕ, suc, Bool, true, false, not, ◌&&◌, ◌||◌, List, [], ◌∷◌, length, Option, Some, None, if◌then◌else◌, nat_lt, map, ◌++◌}
 use Rattle.sv_value.specs.declared.place.Place.{Place}
 use Rattle.sv_value.specs.declared.val.Wanted.{Wanted}
 use Rattle.sv_value.specs.declared.val.Wanted.TheVariants as wanted
@@ -13,10 +13,12 @@ use Rattle.sv_flat.specs.Expr as flat
 use Rattle.sv_tree.specs.declared.word.Name.{Name}
 use Rattle.sv_tree.specs.declared.word.Direction.{Direction}
 use Rattle.sv_tree.specs.declared.word.Direction.TheVariants as direction
-use Rattle.sv_names.specs.declared.typed.How.TheVariants.{Statement as By_statement}
+use Rattle.sv_names.specs.declared.argument.Arg.{Arg}
+use Rattle.sv_names.specs.declared.argument.Taken.{Taken}
+use Rattle.sv_names.specs.declared.argument.Taken.TheVariants.{Value, Target}
 use Rattle.sv_names.specs.declared.around.ClassInfo.{ClassInfo}
 use Rattle.sv_names.specs.declared.checked.Checked.{Checked}
-use Rattle.sv_names.specs.declared.checked.Checked.TheVariants.{Good, Broken}
+use Rattle.sv_names.specs.declared.checked.Checked.TheVariants.{Good}
 use Rattle.sv_names.specs.declared.ty.Ty.{Ty}
 use Rattle.sv_names.specs.declared.ty.Ty.TheVariants.{Text, Class, Nothing, MailboxOf, Assoc, Enum}
 use Rattle.sv_names.specs.declared.hoisted.Hoisted.{Hoisted}
@@ -31,21 +33,21 @@ use Rattle.sv_names.specs.declared.named.Named.{Named}
 use Rattle.sv_names.specs.declared.named.Named.TheVariants.{Constant}
 use Rattle.sv_names.specs.declared.named.Protection.{Protection}
 use Rattle.sv_names.specs.declared.named.Protection.TheVariants.{Open, Local as Local_to_class, Protected}
-use Rattle.sv_names.specs.Checked.{same_place, both, ◌▷◌, given, broken_at, rule, fine, ◌where_also◌, also_broken, only}
+use Rattle.sv_names.specs.Checked.{same_place, both, ◌▷◌, given, put_before, broken_at, rule, fine, ◌where_also◌}
 use Rattle.sv_names.specs.Types.{Path, int_type, is_array, is_integral, is_text, is_class, is_null, is_enum, same_type, item_of, key_of, plain_of, data_of, message_type, integral_or, same_path, same_bytes, as_type}
 use Rattle.sv_names.specs.Hoisted.{pure, mapped, paired, three, in_row, result_of}
-use Rattle.sv_names.specs.Named.{Around, class_in, can_be_derived, in_turn}
+use Rattle.sv_names.specs.Named.{Around, class_in, can_be_derived}
 use Rattle.sv_names.specs.Values.{value_typed, constant_vector, assigned, exactly, alone, number_index, one_item}
 use Rattle.sv_names.specs.Selects.{container_of, key_for}
-use Rattle.sv_names.specs.Targets.{Spot, lvalues, takes, read_of, beside, hidden_in_target}
-use Rattle.sv_names.specs.Methods
-use Rattle.sv_names.specs.Methods.{Method, Action, Gives, type_given, gives_value, may_wait}
-use Rattle.sv_names.specs.Formats.{Arg, values_stand}
-
--- what a call is: a call, with the type of what it gives, or an operator
-pub data Called : Type 0 where
-  A_call : Hoisted CallForm → Ty → Called
-  An_operator : Typed → Called
+use Rattle.sv_names.specs.Targets.{Spot, lvalues, takes, read_of, beside}
+use Rattle.sv_names.specs.declared.method.Action.{Action}
+use Rattle.sv_names.specs.declared.method.Action.TheVariants as action
+use Rattle.sv_names.specs.declared.method.Outcome.{Outcome}
+use Rattle.sv_names.specs.declared.method.Method.{Method}
+use Rattle.sv_names.specs.declared.method.Called.{Called}
+use Rattle.sv_names.specs.declared.method.Called.TheVariants as called
+use Rattle.sv_names.specs.Methods.{type_given, gives_value, may_wait}
+use Rattle.sv_names.specs.Arguments.{value_of_arg, values_stand}
 
 -- ---- where a call may stand
 
@@ -104,23 +106,27 @@ written_argument ar true at t ss =
     (assigned ar t at (read_of at ss) where_also takes ar at t ss) ▷ (λ e. Good (as_inout (lvalues ar ss) e))
 
 -- E31: an output argument is a target
-abbrev pub target_argument : ℕ → Arg → Checked (List Spot)
-target_argument n a = found (a.target By_statement n)
+abbrev pub target_argument : Arg → Checked (List Spot)
+target_argument a = of_taken a.taken
   where
-    found : Option (Checked (List Spot)) → Checked (List Spot)
-    found None = both (broken_at 31 a.at) (a.value n) ▷ (λ p. Good p.0)
-    found (Some c) = c
+    of_taken : Taken → Checked (List Spot)
+    of_taken (Target c) = c
+    of_taken (Value c) = both (broken_at 31 a.at) c ▷ (λ p. Good p.0)
 
--- an argument by its direction, behind so many hidden variables
-abbrev pub argument : Around → Direction → Checked Ty → ℕ → Arg → Checked (Hoisted Argument)
-argument ar direction.Input t n a = input_argument ar a.at t (a.value n)
-argument ar direction.Output t n a = both t (target_argument n a) ▷ (λ p. written_argument ar false a.at p.0 p.1)
-argument ar direction.Inout t n a = both t (target_argument n a) ▷ (λ p. written_argument ar true a.at p.0 p.1)
+-- an argument by its direction
+abbrev pub argument : Around → Direction → Checked Ty → Arg → Checked (Hoisted Argument)
+argument ar direction.Input t a = input_argument ar a.at t (value_of_arg a)
+argument ar direction.Output t a = both t (target_argument a) ▷ (λ p. written_argument ar false a.at p.0 p.1)
+argument ar direction.Inout t a = both t (target_argument a) ▷ (λ p. written_argument ar true a.at p.0 p.1)
 
 -- whether an argument is written
 abbrev pub is_output : Direction → Bool
 is_output direction.Input = false
 is_output d = true
+
+-- which arguments are taken as targets, from the first on
+abbrev pub outputs_of : List Formal → List Bool
+outputs_of fs = map (λ f. is_output f.direction) fs
 
 -- what an argument is where it is left out; a default is constant, so it is no target of an output
 abbrev pub usual_value : Formal → Option (Checked Typed)
@@ -134,18 +140,12 @@ left_out ar at f = found (usual_value f)
     found None = broken_at 31 at
     found (Some e) = input_argument ar at f.ty e
 
--- an argument, and those behind it
-abbrev pub and_further :
-    Checked (Hoisted Argument) → (ℕ → Checked (List (Hoisted Argument))) → Checked (List (Hoisted Argument))
-and_further (Good a) go = given (λ as'. a ∷ as') (go (length a.hidden))
-and_further (Broken f) go = also_broken f (only (go 0))
-
 -- E31: too many
-abbrev pub arguments : Around → Place → ℕ → List Formal → List Arg → Checked (List (Hoisted Argument))
-arguments ar at n [] [] = Good []
-arguments ar at n [] (a ∷ as') = broken_at 31 at where_also values_stand (a ∷ as')
-arguments ar at n (f ∷ fs) [] = and_further (left_out ar at f) (λ k. arguments ar at (n + k) fs [])
-arguments ar at n (f ∷ fs) (a ∷ as') = and_further (argument ar f.direction f.ty n a) (λ k. arguments ar at (n + k) fs as')
+abbrev pub arguments : Around → Place → List Formal → List Arg → Checked (List (Hoisted Argument))
+arguments ar at [] [] = Good []
+arguments ar at [] (a ∷ as') = broken_at 31 at where_also values_stand (a ∷ as')
+arguments ar at (f ∷ fs) [] = put_before (left_out ar at f) (arguments ar at fs [])
+arguments ar at (f ∷ fs) (a ∷ as') = put_before (argument ar f.direction f.ty a) (arguments ar at fs as')
 
 -- ---- calls of subroutines
 
@@ -189,7 +189,7 @@ gives_nothing c = false
 -- E24, E25, E27, E32: a call of a task, a function or a method (13.3 and 13.4)
 abbrev pub subroutine_called : Around → Place → (is_value : Bool) → Callee → Option Typed → Bool → List Arg → Checked Called
 subroutine_called ar at is_value c o direct as' =
-    given (λ p. A_call (call_form ar c o direct p.0) p.1) (both (arguments ar at 0 c.formals as') c.result)
+    given (λ p. called.Call (call_form ar c o direct p.0) p.1) (both (arguments ar at c.formals as') c.result)
     where_also call_stands ar at
     where_also rule 32 at (is_value && gives_nothing c.result)
     where_also rule 27 at (ar.may_not_wait && c.is_task)
@@ -242,12 +242,12 @@ enum_items ar t = Good []
 
 -- a method with one argument
 abbrev pub one_arg : List Arg → (Arg → Checked Called) → Checked Called
-one_arg [] go = Good (A_call (pure (call.Routine (record { 0 = 0 }) None [])) Nothing)
+one_arg [] go = Good (called.Call (pure (call.Routine (record { 0 = 0 }) None [])) Nothing)
 one_arg (a ∷ as') go = go a
 
 -- a method that takes a value
 abbrev pub with_value : Arg → (Typed → Checked (Hoisted CallForm)) → Ty → Checked Called
-with_value a go t = given (λ f. A_call f t) (a.value 0 ▷ go)
+with_value a go t = given (λ f. called.Call f t) (value_of_arg a ▷ go)
 
 -- E16, E42: what a message can be
 abbrev pub is_message : Ty → Bool
@@ -285,11 +285,11 @@ get_form ar peeks waits m ss v =
 -- the number of keys, 1 where none is given
 abbrev pub keys_given : Around → List Arg → Checked (Hoisted flat.Expr)
 keys_given ar [] = Good (pure (flat.Literal (vector true (symbols_of 32 1 0)) None))
-keys_given ar (a ∷ as') = a.value 0 ▷ exactly ar int_type a.at
+keys_given ar (a ∷ as') = value_of_arg a ▷ exactly ar int_type a.at
 
 -- E16: the variable of `first` and its kin has the type of the keys
-abbrev pub walked : Around → Methods.Action → Typed → Place → List Spot → Checked (Hoisted CallForm)
-walked ar (Methods.Walk w) c at (s ∷ []) =
+abbrev pub walked : Around → Action → Typed → Place → List Spot → Checked (Hoisted CallForm)
+walked ar (action.Walk w) c at (s ∷ []) =
     if same_type s.1.ty (key_of c.ty)
     then Good (paired {B = flat.Expr × List Lvalue} (λ q p. call.Walk w (container_of q) p.0 p.1) c.code
     (beside (λ e ls. (e, ls)) s.1.code (lvalues ar (s ∷ []))))
@@ -308,42 +308,47 @@ delete_index ar c at i = by_key (is_queue_index c.ty)
     by_key true = given alone (number_index at i)
     by_key false = key_for ar (key_of c.ty) at i
 
+-- which arguments a method takes as targets
+abbrev pub outputs_of_action : Action → List Bool
+outputs_of_action (action.Walk w) = true ∷ []
+outputs_of_action (action.Get peeks waits) = true ∷ []
+outputs_of_action a = []
+
 -- what each method does with its arguments
-abbrev pub acted : Around → Place → Action → Gives → Typed → List Arg → Checked Called
-acted ar pe (Methods.Push e) g c as' =
+abbrev pub acted : Around → Place → Action → Outcome → Typed → List Arg → Checked Called
+acted ar pe (action.Push e) g c as' =
     one_arg as' (λ a. with_value a (λ x.
     given (paired (λ q v. call.Push e (container_of q) v) c.code) (exactly ar (item_of c.ty) a.at x)) Nothing)
-acted ar pe (Methods.Pop e) g c as' =
-    Good (A_call (mapped (λ q. call.Pop e (container_of q) (plain_of ar.numbers (item_of c.ty))) c.code) (type_given g))
-acted ar pe Methods.Insert g c (i ∷ a ∷ as') =
-    in_turn (i.value 0) (λ j n.
-    given (λ p. A_call (three (λ q x v. call.Insert (container_of q) x v) c.code p.0 p.1) Nothing)
-    (both (j ▷ (λ x. given alone (number_index i.at x))) (a.value n ▷ exactly ar (item_of c.ty) a.at)))
-acted ar pe Methods.Insert g c as' = broken_at 31 pe
-acted ar pe Methods.Delete g c [] = Good (A_call (mapped (λ q. call.Delete (container_of q) None) c.code) Nothing)
-acted ar pe Methods.Delete g c (a ∷ as') =
+acted ar pe (action.Pop e) g c as' =
+    Good (called.Call (mapped (λ q. call.Pop e (container_of q) (plain_of ar.numbers (item_of c.ty))) c.code) (type_given g))
+acted ar pe action.Insert g c (i ∷ a ∷ as') =
+    given (λ p. called.Call (three (λ q x v. call.Insert (container_of q) x v) c.code p.0 p.1) Nothing)
+    (both (value_of_arg i ▷ (λ x. given alone (number_index i.at x))) (value_of_arg a ▷ exactly ar (item_of c.ty) a.at))
+acted ar pe action.Insert g c as' = broken_at 31 pe
+acted ar pe action.Delete g c [] = Good (called.Call (mapped (λ q. call.Delete (container_of q) None) c.code) Nothing)
+acted ar pe action.Delete g c (a ∷ as') =
     with_value a (λ x. given (paired (λ q i. call.Delete (container_of q) (Some i)) c.code) (delete_index ar c a.at x)) Nothing
-acted ar pe Methods.Size g c as' = Good (An_operator (value_typed int_type pe false (mapped size_expr c.code)))
-acted ar pe Methods.Exists g c as' =
-    one_arg as' (λ a. given (λ e. An_operator (value_typed int_type pe false (paired exists_expr c.code e)))
-    (a.value 0 ▷ key_for ar (key_of c.ty) a.at))
-acted ar pe (Methods.Walk w) g c as' =
-    one_arg as' (λ a. given (λ f. A_call f int_type) (target_argument 0 a ▷ walked ar (Methods.Walk w) c a.at))
-acted ar pe (Methods.Put waits) g m as' =
+acted ar pe action.Size g c as' = Good (called.Operator (value_typed int_type pe false (mapped size_expr c.code)))
+acted ar pe action.Exists g c as' =
+    one_arg as' (λ a. given (λ e. called.Operator (value_typed int_type pe false (paired exists_expr c.code e)))
+    (value_of_arg a ▷ key_for ar (key_of c.ty) a.at))
+acted ar pe (action.Walk w) g c as' =
+    one_arg as' (λ a. given (λ f. called.Call f int_type) (target_argument a ▷ walked ar (action.Walk w) c a.at))
+acted ar pe (action.Put waits) g m as' =
     one_arg as' (λ a. with_value a (λ x.
     given (λ p. paired (λ b v. call.Put b v (message_type ar.numbers p.0) waits) m.code p.1) (message_of ar m.ty a.at x))
     (type_given g))
-acted ar pe (Methods.Get peeks waits) g m as' =
-    one_arg as' (λ a. given (λ f. A_call f (type_given g))
-    (target_argument 0 a ▷ (λ ss. given (get_form ar peeks waits m ss) (receiver m.ty a.at ss))))
-acted ar pe Methods.Messages g m as' = Good (An_operator (value_typed int_type pe false (mapped flat.Messages m.code)))
-acted ar pe Methods.Put_keys g s as' = given (λ n. A_call (paired call.PutKeys s.code n) Nothing) (keys_given ar as')
-acted ar pe (Methods.Get_keys waits) g s as' =
-    given (λ n. A_call (paired (λ x y. call.GetKeys x y waits) s.code n) (type_given g)) (keys_given ar as')
-acted ar pe Methods.Name g e as' =
-    given (λ is. An_operator (value_typed Text pe e.is_constant (mapped (flat.Name is) (alone e)))) (enum_items ar e.ty)
-acted ar pe Methods.Length g t as' = Good (An_operator (value_typed int_type pe t.is_constant (mapped flat.Length t.code)))
-acted ar pe Methods.Triggered g e as' = Good (An_operator (value_typed (type_given g) pe false (mapped flat.Triggered e.code)))
+acted ar pe (action.Get peeks waits) g m as' =
+    one_arg as' (λ a. given (λ f. called.Call f (type_given g))
+    (target_argument a ▷ (λ ss. given (get_form ar peeks waits m ss) (receiver m.ty a.at ss))))
+acted ar pe action.Messages g m as' = Good (called.Operator (value_typed int_type pe false (mapped flat.Messages m.code)))
+acted ar pe action.PutKeys g s as' = given (λ n. called.Call (paired call.PutKeys s.code n) Nothing) (keys_given ar as')
+acted ar pe (action.GetKeys waits) g s as' =
+    given (λ n. called.Call (paired (λ x y. call.GetKeys x y waits) s.code n) (type_given g)) (keys_given ar as')
+acted ar pe action.Name g e as' =
+    given (λ is. called.Operator (value_typed Text pe e.is_constant (mapped (flat.Name is) (alone e)))) (enum_items ar e.ty)
+acted ar pe action.Length g t as' = Good (called.Operator (value_typed int_type pe t.is_constant (mapped flat.Length t.code)))
+acted ar pe action.Triggered g e as' = Good (called.Operator (value_typed (type_given g) pe false (mapped flat.Triggered e.code)))
 
 -- E24, E25, E27, E31, E32: a call of a method of the language
 abbrev pub method_called : Around → Place → (is_value : Bool) → Method → Typed → List Arg → Checked Called
@@ -371,8 +376,8 @@ castable ar answers a pb ss x = broken_at 16 a.at
 -- E24, E25, E31: `$cast` is a call (8.16)
 abbrev pub cast_called : Around → (answers : Bool) → Place → List Arg → Checked Called
 cast_called ar answers at (a ∷ b ∷ []) =
-    given (λ f. A_call f int_type)
-    (both (target_argument 0 a) (b.value (hidden_in_target (target_argument 0 a))) ▷ (λ p. castable ar answers a b.at p.0 p.1))
+    given (λ f. called.Call f int_type)
+    (both (target_argument a) (value_of_arg b) ▷ (λ p. castable ar answers a b.at p.0 p.1))
     where_also call_stands ar at
 cast_called ar answers at as' = broken_at 31 at where_also values_stand as' where_also call_stands ar at
 
@@ -380,5 +385,5 @@ cast_called ar answers at as' = broken_at 31 at where_also values_stand as' wher
 
 -- what a call gives, in a hidden variable
 abbrev pub as_value : Around → Place → Called → Typed
-as_value ar at (A_call f t) = value_typed t at false (result_of ar.first (data_of ar.numbers t) f)
-as_value ar at (An_operator t) = t
+as_value ar at (called.Call f t) = value_typed t at false (result_of ar.first (data_of ar.numbers t) f)
+as_value ar at (called.Operator t) = t

@@ -1,16 +1,21 @@
 -- Expressions and targets over what their names stand for (IEEE 1800-2017, 11): the table of all forms.
-use Rattle.std.specs.Prelude.{ℕ, Bool, true, false, not, ◌||◌, List, [], ◌∷◌, ◌++◌, Option, Some, None, if◌then◌else◌, codes, length, pos, option_map}
+use Rattle.std.specs.Prelude.{ℕ, Bool, true, false, not, ◌||◌, List, [], ◌∷◌, ◌++◌, Option, Some, None, if◌then◌else◌, codes, pos, option_map}
 use Rattle.sv_value.specs.declared.place.Place.{Place}
 use Rattle.sv_value.specs.Vector.{vector, symbols_of}
 use Rattle.sv_flat.specs.declared.target.Part.{Part}
 use Rattle.sv_flat.specs.Expr as flat
 use Rattle.sv_tree.specs.declared.word.Name.{Name}
+use Rattle.sv_tree.specs.declared.word.PartWord.{PartWord}
 use Rattle.sv_tree.specs.declared.expr.Root.TheVariants as root
 use Rattle.sv_tree.specs.declared.expr.CastType.{CastType}
 use Rattle.sv_tree.specs.declared.expr.CastType.TheVariants as cast
 use Rattle.sv_tree.specs.Expr as tree
 use Rattle.sv_tree.specs.Expr.{place_of, place_of_root, place_of_cast}
+use Rattle.sv_names.specs.declared.argument.Arg.{Arg}
+use Rattle.sv_names.specs.declared.argument.Taken.{Taken}
+use Rattle.sv_names.specs.declared.argument.Taken.TheVariants.{Value, Target}
 use Rattle.sv_names.specs.declared.typed.How.{How}
+use Rattle.sv_names.specs.declared.typed.How.TheVariants.{Statement as By_statement}
 use Rattle.sv_names.specs.declared.around.Dollar.{Dollar}
 use Rattle.sv_names.specs.declared.around.Dollar.TheVariants.{NoDollar, UnknownDollar, LastIndex}
 use Rattle.sv_names.specs.declared.checked.Fault.{Fault}
@@ -25,14 +30,15 @@ use Rattle.sv_names.specs.Literals.{text_of}
 use Rattle.sv_names.specs.Checked.{both, ◌▷◌, given, broken_at, ◌where_also◌, only, also_broken}
 use Rattle.sv_names.specs.Types.{is_integral, is_container, selectable, plain_vector, int_type, width_of_type, is_four_state, integral, same_bytes, whole}
 use Rattle.sv_names.specs.Hoisted.{pure, mapped}
-use Rattle.sv_names.specs.Named.{Around, meaning, found, names_type, told_at, in_turn, behind}
+use Rattle.sv_names.specs.Named.{Around, meaning, found, names_type, told_at, in_turn, behind, hidden_in}
 use Rattle.sv_names.specs.Values.{value_typed, number_operand, constant_count}
-use Rattle.sv_names.specs.Operators.{Placed, literal_typed, ticks_in, time_typed, unary_typed, kind_of, decides_early, binary_of, choose_of, joinable, joins, join_of, repeat_of, cast_to, sized, vector_word_four_state, atom_type}
-use Rattle.sv_names.specs.Selects.{select_of, part_select_of}
+use Rattle.sv_names.specs.Operators.{literal_typed, ticks_in, time_typed, unary_typed, kind_of, decides_early, binary_of, choose_of, join_of, repeat_of, cast_to, sized, vector_word_four_state, atom_type}
 use Rattle.sv_names.specs.Targets.{Spot, concatenated, may_begin, selects_stand, hidden_in_target}
-use Rattle.sv_names.specs.Formats.{Arg, sformatf, values_stand}
-use Rattle.sv_names.specs.Calls.{Called, as_value, cast_called}
-use Rattle.sv_names.specs.Things.{Thing, A_value, A_subroutine, A_method, Its_result, The_signal, signal_target, root_thing, named_thing, thing_value, after_dot, after_actuals, and_behind, dollar_in, thing_target, called_thing, hidden_before}
+use Rattle.sv_names.specs.Arguments.{value_of_arg, values_stand, parts_of}
+use Rattle.sv_names.specs.Formats.{sformatf}
+use Rattle.sv_names.specs.declared.method.Called.{Called}
+use Rattle.sv_names.specs.Calls.{as_value, cast_called}
+use Rattle.sv_names.specs.Things.{Thing, A_value, A_subroutine, A_method, Its_result, The_signal, signal_target, root_thing, named_thing, thing_value, after_dot, and_behind, dollar_in, thing_target, called_thing, hidden_before, outputs_of_thing, called_step, select_step, part_step}
 
 -- ---- system names
 
@@ -91,7 +97,7 @@ has_calls t = some t.code.hidden
 -- `$bits` of an expression is constant where no call stands in it
 abbrev pub bits_of_value : Place → Arg → Checked Typed
 bits_of_value at a =
-    a.value 0 ▷ number_operand a.at
+    value_of_arg a ▷ number_operand a.at
     ▷ (λ t. Good (value_typed int_type at (not (has_calls t)) (mapped (λ e. bits_literal (width_of_type t.ty)) t.code)))
 
 -- E15: `$bits` of a type, which is integral
@@ -141,13 +147,18 @@ time_now at = value_typed (selectable 64 false true) at false (pure (flat.Time a
 abbrev pub system_value : Around → Place → Option (Checked Ty) → List Arg → System → Checked Typed
 system_value ar at t as' Time = no_argument at as' (time_now at)
 system_value ar at t as' Bits = bits_of at t as'
-system_value ar at t as' Clog2 = of_one at as' (λ a. given (logarithm at) (a.value 0 ▷ number_operand a.at))
-system_value ar at t as' Signed = of_one at as' (λ a. given (signed_as at true) (a.value 0 ▷ number_operand a.at))
-system_value ar at t as' Unsigned = of_one at as' (λ a. given (signed_as at false) (a.value 0 ▷ number_operand a.at))
+system_value ar at t as' Clog2 = of_one at as' (λ a. given (logarithm at) (value_of_arg a ▷ number_operand a.at))
+system_value ar at t as' Signed = of_one at as' (λ a. given (signed_as at true) (value_of_arg a ▷ number_operand a.at))
+system_value ar at t as' Unsigned = of_one at as' (λ a. given (signed_as at false) (value_of_arg a ▷ number_operand a.at))
 system_value ar at t as' Sformatf = sformatf at as'
 system_value ar at t as' Cast = given (as_value ar at) (cast_called ar true at as')
 system_value ar at t as' Unknown = broken_at 55 at where_also values_stand as'
 system_value ar at t as' task = broken_at 32 at
+
+-- `$cast` of two arguments takes the first one as a target
+abbrev pub outputs_of_system : System → tree.Actuals → List Bool
+outputs_of_system Cast (tree.Written (tree.AndExpr a (tree.AndExpr b tree.NoExpr))) = true ∷ []
+outputs_of_system s a = []
 
 -- the type that the first argument names
 abbrev pub first_type : Around → tree.Actuals → Option (Checked Ty)
@@ -233,8 +244,8 @@ abbrev pub with_dollar : Dollar → Around → Around
 with_dollar d ar = record ar { dollar = d }
 
 -- in an index, behind what is indexed
-abbrev pub in_index : Checked Thing → Typed → Around → Around
-in_index th t ar = behind (length t.code.hidden) (with_dollar (dollar_in th) ar)
+abbrev pub in_index : Checked Thing → Checked Typed → Around → Around
+in_index th v ar = behind (hidden_in v) (with_dollar (dollar_in th) ar)
 
 -- E7: `$` stands in the index of a queue
 abbrev pub dollar_typed : Place → Dollar → Checked Typed
@@ -257,9 +268,34 @@ abbrev pub hidden_in_spots : Option (Checked (List Spot)) → ℕ
 hidden_in_spots None = 0
 hidden_in_spots (Some c) = hidden_in_target c
 
+-- all parts, if all can be targets
+abbrev pub all_spots : List (Option (Checked (List Spot))) → Option (Checked (List Spot))
+all_spots [] = Some (Good [])
+all_spots (a ∷ as') = more_spots a (all_spots as')
+
 -- a part, and those that stand behind it
-abbrev pub spots_in_turn : Option (Checked (List Spot)) → (ℕ → Option (Checked (List Spot))) → Option (Checked (List Spot))
-spots_in_turn a go = more_spots a (go (hidden_in_spots a))
+abbrev pub spots_in_turn :
+    Option (Checked (List Spot)) → (ℕ → List (Option (Checked (List Spot)))) → List (Option (Checked (List Spot)))
+spots_in_turn a go = a ∷ go (hidden_in_spots a)
+
+-- how many hidden variables an argument takes
+abbrev pub hidden_in_arg : Taken → ℕ
+hidden_in_arg (Value c) = hidden_in c
+hidden_in_arg (Target c) = hidden_in_target c
+
+-- an argument, and those that stand behind it
+abbrev pub args_in_turn : Place → Option (List ℕ) → Taken → (ℕ → List Arg) → List Arg
+args_in_turn at text a go = record { at = at; text = text; taken = a } ∷ go (hidden_in_arg a)
+
+-- an argument that is taken as a target, where it can be one
+abbrev pub as_output : Option (Checked (List Spot)) → (Unit {0} → Checked Typed) → Taken
+as_output None value = Value (value tt)
+as_output (Some c) value = Target c
+
+-- an argument as a target, or as a value
+abbrev pub taken : (is_output : Bool) → (Unit {0} → Option (Checked (List Spot))) → (Unit {0} → Checked Typed) → Taken
+taken true target value = as_output (target tt) value
+taken false target value = Value (value tt)
 
 -- a concatenation as a target
 abbrev pub as_concatenation : Place → Option (Checked (List Spot)) → Option (Checked (List Spot))
@@ -276,11 +312,12 @@ abbrev mutual
   expr ar (tree.Dollar at) = dollar_typed at ar.dollar
   expr ar (tree.Group at e) = expr ar e
   expr ar (tree.Post r s) = things ar (place_of_root r) (root_thing ar r) s ▷ thing_value ar (place_of_root r)
-  expr ar (tree.System n a) = system_value ar n.at (first_type ar a) (actual_args ar a) (system_of n)
-  expr ar (tree.SuperNew at new a) = both (broken_at 38 at) (placed_actuals ar a) ▷ (λ p. p.0)
-  expr ar (tree.Join at es) = placed ar es ▷ join_of at
+  expr ar (tree.System n a) =
+      system_value ar n.at (first_type ar a) (actual_args ar (outputs_of_system (system_of n) a) a) (system_of n)
+  expr ar (tree.SuperNew at new a) = both (broken_at 38 at) (parts_of (actual_args ar [] a)) ▷ (λ p. p.0)
+  expr ar (tree.Join at es) = parts_of (args ar [] es) ▷ join_of at
   expr ar (tree.Repeat at n inner es) =
-      repeat_of at (expr ar n ▷ constant_count (place_of n)) (placed ar es ▷ join_of inner)
+      repeat_of at (expr ar n ▷ constant_count (place_of n)) (parts_of (args ar [] es) ▷ join_of inner)
   expr ar (tree.Cast c e) = cast_of ar c (place_of_cast c) (place_of e) (expr ar e)
   expr ar (tree.Unary at op e) = given (unary_typed at op) (expr ar e ▷ number_operand (place_of e))
   expr ar (tree.Binary op at a b) =
@@ -291,62 +328,34 @@ abbrev mutual
       in_turn (expr ar c) (λ x n. in_turn (expr (behind n (without_calls ar)) a) (λ y m.
       choose_of ar (place_of c) (place_of a) (place_of b) x y (expr (behind m (behind n (without_calls ar))) b)))
 
-  -- the parts of a concatenation
-  pub placed : Around → tree.Exprs → Checked (List Placed)
-  placed ar tree.NoExpr = Good []
-  placed ar (tree.AndExpr e es) =
-      in_turn (expr ar e) (λ x n.
-      given (λ p. (place_of e, p.0) ∷ p.1)
-      (both (x ▷ joinable (place_of e)) (placed_behind (behind n ar) (x ▷ joinable (place_of e)) es)))
-
-  -- those behind the first
-  pub placed_behind : Around → (first : Checked Typed) → tree.Exprs → Checked (List Placed)
-  placed_behind ar first tree.NoExpr = Good []
-  placed_behind ar first (tree.AndExpr e es) =
-      in_turn (expr ar e) (λ x n.
-      given (λ p. (place_of e, p.0) ∷ p.1)
-      (both (x ▷ joins first (place_of e)) (placed_behind (behind n ar) first es)))
+  -- the arguments of a call, each behind those before it; `os` tells from the first on which are taken as targets
+  pub args : Around → (os : List Bool) → tree.Exprs → List Arg
+  args ar os tree.NoExpr = []
+  args ar [] (tree.AndExpr e es) =
+      args_in_turn (place_of e) (literal_text e) (Value (expr ar e)) (λ n. args (behind n ar) [] es)
+  args ar (o ∷ os) (tree.AndExpr e es) =
+      args_in_turn (place_of e) (literal_text e) (taken o (λ _. target_in By_statement ar e) (λ _. expr ar e))
+      (λ n. args (behind n ar) os es)
 
   -- the same, where brackets are written
-  pub placed_actuals : Around → tree.Actuals → Checked (List Placed)
-  placed_actuals ar tree.Unwritten = Good []
-  placed_actuals ar (tree.Written es) = placed ar es
-
-  -- the arguments of a call
-  pub args : Around → tree.Exprs → List Arg
-  args ar tree.NoExpr = []
-  args ar (tree.AndExpr e es) =
-      record {
-        at = place_of e;
-        text = literal_text e;
-        value = λ n. expr (behind n ar) e;
-        target = λ h n. target_in h (behind n ar) e;
-      } ∷ args ar es
-
-  -- the same, where brackets are written
-  pub actual_args : Around → tree.Actuals → List Arg
-  actual_args ar tree.Unwritten = []
-  actual_args ar (tree.Written es) = args ar es
+  pub actual_args : Around → (os : List Bool) → tree.Actuals → List Arg
+  actual_args ar os tree.Unwritten = []
+  actual_args ar os (tree.Written es) = args ar os es
 
   -- what follows a name, from the left; the place is that of the expression
   pub things : Around → Place → Checked Thing → tree.Suffixes → Checked Thing
   things ar pe th tree.NoSuffix = th
   things ar pe th (tree.Member n rest) = things ar pe (th ▷ after_dot ar pe n) rest
   things ar pe th (tree.Call at es rest) =
-      things ar pe
-      (and_behind (th ▷ after_actuals ar pe (args (behind (hidden_before th) ar) es)) th (λ _. values_stand (args ar es)))
-      rest
+      things ar pe (called_step ar pe th (args (behind (hidden_before th) ar) (outputs_of_thing th) es)) rest
   things ar pe th (tree.Select at i rest) =
       things ar pe
-      (and_behind (given A_value (th ▷ thing_value ar pe ▷ (λ t. select_of ar at (place_of i) t (expr (in_index th t ar) i))))
-      th (λ _. only (expr (with_dollar (dollar_in th) ar) i)))
+      (select_step ar at (place_of i) th (th ▷ thing_value ar pe) (expr (in_index th (th ▷ thing_value ar pe) ar) i))
       rest
   things ar pe th (tree.Part at w l r rest) =
       things ar pe
-      (and_behind
-      (given A_value (th ▷ thing_value ar pe ▷ (λ t.
-      part_select_of w at pe (place_of l) (place_of r) t (expr (in_index th t ar) l) (expr (in_index th t ar) r))))
-      th (λ _. only (both (expr (with_dollar (dollar_in th) ar) l) (expr (with_dollar (dollar_in th) ar) r))))
+      (part_step w at pe (place_of l) (place_of r) th (th ▷ thing_value ar pe)
+      (expr (in_index th (th ▷ thing_value ar pe) ar) l) (expr (in_index th (th ▷ thing_value ar pe) ar) r))
       rest
 
   -- a target as far as it breaks no rule: before its first broken select, or whole
@@ -354,17 +363,17 @@ abbrev mutual
   before_select ar pe th tree.NoSuffix = as_target ar th
   before_select ar pe th (tree.Member n rest) = before_select ar pe (th ▷ after_dot ar pe n) rest
   before_select ar pe th (tree.Call at es rest) =
-      if_broken (as_called pe th rest) (th ▷ after_actuals ar pe (args (behind (hidden_before th) ar) es))
+      if_broken (as_called pe th rest)
+      (called_step ar pe th (args (behind (hidden_before th) ar) (outputs_of_thing th) es))
       (λ next. before_select ar pe next rest)
   before_select ar pe th (tree.Select at i rest) =
       if_broken (option_map as_selected (as_target ar th))
-      (given A_value (th ▷ thing_value ar pe ▷ (λ t. select_of ar at (place_of i) t (expr (with_dollar (dollar_in th) ar) i))))
+      (select_step ar at (place_of i) th (th ▷ thing_value ar pe) (expr (in_index th (th ▷ thing_value ar pe) ar) i))
       (λ next. before_select ar pe next rest)
   before_select ar pe th (tree.Part at w l r rest) =
       if_broken (option_map as_selected (as_target ar th))
-      (given A_value (th ▷ thing_value ar pe ▷ (λ t.
-      part_select_of w at pe (place_of l) (place_of r) t
-      (expr (with_dollar (dollar_in th) ar) l) (expr (with_dollar (dollar_in th) ar) r))))
+      (part_step w at pe (place_of l) (place_of r) th (th ▷ thing_value ar pe)
+      (expr (in_index th (th ▷ thing_value ar pe) ar) l) (expr (in_index th (th ▷ thing_value ar pe) ar) r))
       (λ next. before_select ar pe next rest)
 
   -- an expression as a target; None where it can be none
@@ -373,13 +382,30 @@ abbrev mutual
       Some (or_before h (place_of_root r)
       (things ar (place_of_root r) (root_thing ar r) s ▷ thing_target ar h (place_of_root r))
       (λ _. before_select ar (place_of_root r) (root_thing ar r) s))
-  target_in h ar (tree.Join at es) = as_concatenation at (targets_in h ar es)
+  target_in h ar (tree.Join at es) = as_concatenation at (all_spots (targets_in h ar es))
   target_in h ar e = None
 
-  -- the parts of a concatenation as targets
-  pub targets_in : How → Around → tree.Exprs → Option (Checked (List Spot))
-  targets_in h ar tree.NoExpr = Some (Good [])
+  -- the parts of a concatenation as targets, each behind those before it
+  pub targets_in : How → Around → tree.Exprs → List (Option (Checked (List Spot)))
+  targets_in h ar tree.NoExpr = []
   targets_in h ar (tree.AndExpr e es) = spots_in_turn (target_in h ar e) (λ n. targets_in h (behind n ar) es)
+
+-- ---- one more suffix behind a thing
+
+-- `(..)`
+abbrev pub called_with : Around → Place → Checked Thing → tree.Exprs → Checked Thing
+called_with ar pe th es = called_step ar pe th (args (behind (hidden_before th) ar) (outputs_of_thing th) es)
+
+-- `[i]`
+abbrev pub selected_by : Around → Place → Checked Thing → Place → tree.Expr → Checked Thing
+selected_by ar pe th at i =
+    select_step ar at (place_of i) th (th ▷ thing_value ar pe) (expr (in_index th (th ▷ thing_value ar pe) ar) i)
+
+-- `[l:r]`, `[b +: w]`, `[b -: w]`
+abbrev pub part_by : Around → Place → Checked Thing → Place → PartWord → tree.Expr → tree.Expr → Checked Thing
+part_by ar pe th at w l r =
+    part_step w at pe (place_of l) (place_of r) th (th ▷ thing_value ar pe)
+    (expr (in_index th (th ▷ thing_value ar pe) ar) l) (expr (in_index th (th ▷ thing_value ar pe) ar) r)
 
 -- ---- targets as they are written
 
@@ -415,12 +441,16 @@ abbrev pub called_bare : Around → Place → (is_value : Bool) → Thing → Ch
 called_bare ar pe v (Its_result c o x at) = broken_at 7 at
 called_bare ar pe v th = called_thing ar pe v th []
 
+-- a call behind what is called
+abbrev pub last_call : Around → Place → (is_value : Bool) → Checked Thing → List Arg → Checked Called
+last_call ar pe v th as' = and_behind (th ▷ (λ t. called_thing ar pe v t as')) th (λ _. values_stand as')
+
 -- what a call that stands as a statement calls
 abbrev pub called_in : Around → Place → (is_value : Bool) → Checked Thing → tree.Suffixes → Checked Called
 called_in ar pe v th tree.NoSuffix = th ▷ called_bare ar pe v
 called_in ar pe v th (tree.Call at es tree.NoSuffix) =
-    and_behind (th ▷ (λ t. called_thing ar pe v t (args (behind (hidden_before th) ar) es))) th (λ _. values_stand (args ar es))
-called_in ar pe v th (tree.Call at es rest) = called_in ar pe v (things ar pe th (tree.Call at es tree.NoSuffix)) rest
-called_in ar pe v th (tree.Member n rest) = called_in ar pe v (things ar pe th (tree.Member n tree.NoSuffix)) rest
-called_in ar pe v th (tree.Select at i rest) = called_in ar pe v (things ar pe th (tree.Select at i tree.NoSuffix)) rest
-called_in ar pe v th (tree.Part at w l r rest) = called_in ar pe v (things ar pe th (tree.Part at w l r tree.NoSuffix)) rest
+    last_call ar pe v th (args (behind (hidden_before th) ar) (outputs_of_thing th) es)
+called_in ar pe v th (tree.Call at es rest) = called_in ar pe v (called_with ar pe th es) rest
+called_in ar pe v th (tree.Member n rest) = called_in ar pe v (th ▷ after_dot ar pe n) rest
+called_in ar pe v th (tree.Select at i rest) = called_in ar pe v (selected_by ar pe th at i) rest
+called_in ar pe v th (tree.Part at w l r rest) = called_in ar pe v (part_by ar pe th at w l r) rest

@@ -236,11 +236,19 @@ joinable at t =
     if is_array t.ty then broken_at 42 t.at
     else (if is_integral t.ty || is_text t.ty then Good t else broken_at 15 at)
 
--- E15: strings alone, or numbers alone; the first part decides, where it breaks no rule
-abbrev pub joins : Checked Typed → Place → Typed → Checked Typed
-joins (Broken f) at t = joinable at t
-joins (Good first) at t =
-    joinable at t ▷ (λ x. if same_flag (is_text first.ty) (is_text x.ty) then Good x else broken_at 15 at)
+-- whether a part is a string, where it breaks no rule
+abbrev pub first_is_text : Checked Typed → Option Bool
+first_is_text (Good t) = Some (is_text t.ty)
+first_is_text (Broken f) = None
+
+-- E15: strings alone, or numbers alone
+abbrev pub alike : (texts : Bool) → Place → Typed → Checked Typed
+alike b at t = if same_flag b (is_text t.ty) then Good t else broken_at 15 at
+
+-- E15: the first part decides, where it breaks no rule
+abbrev pub joins : (first : Option Bool) → Place → Typed → Checked Typed
+joins None at t = joinable at t
+joins (Some b) at t = joinable at t ▷ alike b at
 
 -- parts from the left
 abbrev pub joined : Typed → List Placed → Typed

@@ -41,7 +41,7 @@ use Rattle.sv_names.specs.Named.{Around, nearest, placed_at, local_size, raised,
 use Rattle.sv_names.specs.Values.{alone, one_item, assigned}
 use Rattle.sv_names.specs.Selects.{container_of}
 use Rattle.sv_names.specs.Targets.{lvalue}
-use Rattle.sv_names.specs.Formats.{values_stand}
+use Rattle.sv_names.specs.Arguments.{values_stand}
 use Rattle.sv_names.specs.Calls.{wait_stands}
 use Rattle.sv_names.specs.Things.{root_thing, variable_typed}
 use Rattle.sv_names.specs.Expressions.{expr, actual_args, target, number_in, called_in, system_of}
@@ -103,7 +103,7 @@ abbrev pub call_of : Around → Place → tree.Expr → Checked Code
 call_of ar at (tree.Post r s) =
     given (single at) (raised ar (λ i. given call_statement (called_in i (place_of_root r) false (root_thing i r) s)))
 call_of ar at (tree.System n a) = given (single at) (raised ar (λ i. system_task i n.at a (system_of n)))
-call_of ar at (tree.SuperNew p new a) = broken_at 38 p where_also values_stand (actual_args ar a)
+call_of ar at (tree.SuperNew p new a) = broken_at 38 p where_also values_stand (actual_args ar [] a)
 call_of ar at e = broken_at 7 (place_of e)
 
 -- `void'(..)`, which drops the value of a call (13.4.1)
@@ -111,7 +111,7 @@ abbrev pub ignored : Around → Place → tree.Expr → Checked Code
 ignored ar at (tree.Post r s) =
     given (single at) (raised ar (λ i. given call_statement (called_in i (place_of_root r) true (root_thing i r) s)))
 ignored ar at (tree.System n a) = given (single at) (raised ar (λ i. system_ignored i n.at a (system_of n)))
-ignored ar at (tree.SuperNew p new a) = broken_at 38 p where_also values_stand (actual_args ar a)
+ignored ar at (tree.SuperNew p new a) = broken_at 38 p where_also values_stand (actual_args ar [] a)
 ignored ar at e = broken_at 7 (place_of e)
 
 -- ---- `return`

@@ -40,7 +40,8 @@ use Rattle.sv_names.specs.Types.{Path, data_of, is_fixed}
 use Rattle.sv_names.specs.Hoisted.{mapped, in_row}
 use Rattle.sv_names.specs.Named.{Around, class_in, in_known, raised}
 use Rattle.sv_names.specs.Targets.{Spot}
-use Rattle.sv_names.specs.Formats.{Arg, values_stand}
+use Rattle.sv_names.specs.declared.argument.Arg.{Arg}
+use Rattle.sv_names.specs.Arguments.{values_stand}
 use Rattle.sv_names.specs.Calls.{as_input, usual_value}
 use Rattle.sv_names.specs.Things.{this_typed, field_typed}
 use Rattle.sv_names.specs.Expressions.{actual_args}
@@ -48,7 +49,7 @@ use Rattle.sv_names.specs.Entries.{Taken, taken, is_task, has_result, subroutine
 use Rattle.sv_names.specs.Declarations.{result_of_life}
 use Rattle.sv_names.specs.Scopes.{callee_stands, known_stand, scope_of, callee_within, all_entries, subroutine_scope}
 use Rattle.sv_names.specs.Code.{Numbered, Code, changed, empty, single, locals_of, with_objects, home_of, object_at, decimal}
-use Rattle.sv_names.specs.Assignments.{constructor_in, with_constructor, assignment}
+use Rattle.sv_names.specs.Assignments.{constructor_in, with_constructor, outputs_of_class, assignment}
 use Rattle.sv_names.specs.Blocks.{end_label, decls_code, in_sequence}
 use Rattle.sv_names.specs.Statements.{stmts, place_from, result_variable}
 
@@ -236,11 +237,12 @@ super_form ar base this as' =
     (in_row (as_input this.code ∷ as'))
 
 -- `super.new`, written or implied, at the place of its statement
-abbrev pub super_code : Around → Place → Place → Path → (Around → List Arg) → Option ClassInfo → Checked Code
+abbrev pub super_code : Around → Place → Place → Path → (Around → List Bool → List Arg) → Option ClassInfo → Checked Code
 super_code i at pe base as' None = Good empty
 super_code i at pe base as' (Some k) =
     given (single at) (raised i (λ s.
-    given (λ p. super_form s base p.0 p.1) (both (this_typed s at) (with_constructor s pe base (as' s) (constructor_in k)))))
+    given (λ p. super_form s base p.0 p.1)
+    (both (this_typed s at) (with_constructor s pe base (as' s (outputs_of_class (Some k))) (constructor_in k)))))
 
 -- E40: a base constructor needs arguments and none are given
 abbrev pub needs_arguments : List FormalArgument → Bool
@@ -266,12 +268,13 @@ implied_super i k at None = Good empty
 implied_super i k at (Some b) =
     if constructor_needs (class_in i.classes b)
     then broken_at 40 k.name.at
-    else super_code i at at b (λ s. []) (class_in i.classes b)
+    else super_code i at at b (λ s os. []) (class_in i.classes b)
 
 -- E38: `super.new` in a class that extends none
-abbrev pub written_super : Around → ClassInfo → Place → Place → (Around → List Arg) → Option Path → Checked Code
+abbrev pub written_super :
+    Around → ClassInfo → Place → Place → (Around → List Bool → List Arg) → Option Path → Checked Code
 written_super i k at ps as' None =
-    (if is_some k.base_fault then Good empty else broken_at 38 ps) where_also values_stand (as' i)
+    (if is_some k.base_fault then Good empty else broken_at 38 ps) where_also values_stand (as' i [])
 written_super i k at ps as' (Some b) = super_code i at ps b as' (class_in i.classes b)
 
 -- how a constructor begins
@@ -292,7 +295,7 @@ after_opening xs = xs
 
 -- the call of the constructor of the base
 abbrev pub super_of : ClassInfo → Place → Opening → Before
-super_of k at (Super_at p ps a) i = written_super i k p ps (λ s. actual_args s a) k.base
+super_of k at (Super_at p ps a) i = written_super i k p ps (λ s os. actual_args s os a) k.base
 super_of k at No_super i = implied_super i k at k.base
 
 -- ---- the initializers of properties, each an assignment

@@ -7,6 +7,7 @@ use Rattle.sv_flat.specs.declared.target.Base.{Base}
 use Rattle.sv_flat.specs.declared.target.Base.TheVariants as base
 use Rattle.sv_flat.specs.Expr as flat
 use Rattle.sv_tree.specs.declared.word.Name.{Name}
+use Rattle.sv_tree.specs.declared.word.PartWord.{PartWord}
 use Rattle.sv_tree.specs.declared.expr.Root.{Root}
 use Rattle.sv_tree.specs.declared.expr.Root.TheVariants as root
 use Rattle.sv_names.specs.declared.typed.How.{How}
@@ -16,6 +17,7 @@ use Rattle.sv_names.specs.declared.around.Dollar.TheVariants.{NoDollar, UnknownD
 use Rattle.sv_names.specs.declared.checked.Fault.{Fault}
 use Rattle.sv_names.specs.declared.checked.Checked.{Checked}
 use Rattle.sv_names.specs.declared.checked.Checked.TheVariants.{Good, Broken}
+use Rattle.sv_names.specs.declared.argument.Arg.{Arg}
 use Rattle.sv_names.specs.declared.ty.Ty.{Ty}
 use Rattle.sv_names.specs.declared.ty.Ty.TheVariants.{Class}
 use Rattle.sv_names.specs.declared.typed.Typed.{Typed}
@@ -26,15 +28,18 @@ use Rattle.sv_names.specs.declared.named.Named.{Named}
 use Rattle.sv_names.specs.declared.named.Named.TheVariants.{Variable, Net, Input, Local, Property, StaticProperty, Constant, TypeName, ClassName, Subroutine, Itself, ClockingBlock, Other}
 use Rattle.sv_names.specs.declared.named.Callee.{Callee}
 use Rattle.sv_names.specs.declared.named.SignalInfo.{SignalInfo}
-use Rattle.sv_names.specs.Checked.{◌▷◌, given, broken_at, rule, ◌where_also◌, unless, also_broken}
+use Rattle.sv_names.specs.Checked.{both, ◌▷◌, given, broken_at, rule, ◌where_also◌, unless, also_broken, only}
 use Rattle.sv_names.specs.Types.{Path, is_queue, data_of, same_bytes}
 use Rattle.sv_names.specs.Hoisted.{pure, mapped, paired}
 use Rattle.sv_names.specs.Named.{Around, class_in, is_derived, line_of, broken_end, member_of, property_place, found, told, meaning, kind_stands, is_type_kind, is_value_kind, result_named, further}
 use Rattle.sv_names.specs.Values.{no_target}
+use Rattle.sv_names.specs.Selects.{select_of, part_select_of}
 use Rattle.sv_names.specs.Targets.{Spot, may_be_written}
-use Rattle.sv_names.specs.Methods.{Method, method_of}
-use Rattle.sv_names.specs.Formats.{Arg, values_stand}
-use Rattle.sv_names.specs.Calls.{Called, as_value, subroutine_called, method_called, may_be_named, gives_nothing, size_expr}
+use Rattle.sv_names.specs.declared.method.Method.{Method}
+use Rattle.sv_names.specs.declared.method.Called.{Called}
+use Rattle.sv_names.specs.Methods.{method_of}
+use Rattle.sv_names.specs.Arguments.{values_stand}
+use Rattle.sv_names.specs.Calls.{as_value, subroutine_called, method_called, may_be_named, gives_nothing, size_expr, outputs_of, outputs_of_action}
 
 -- what a name with its members and calls can stand for
 pub data Thing : Type 0 where
@@ -351,6 +356,30 @@ hidden_before (Good (A_subroutine c o d at)) = hidden_in_object o
 hidden_before (Good (A_method m o at)) = length o.code.hidden
 hidden_before (Good (Its_result c o v at)) = hidden_in_object o
 hidden_before th = 0
+
+-- which arguments are taken as targets, from the first on
+abbrev pub outputs_of_thing : Checked Thing → List Bool
+outputs_of_thing (Good (A_subroutine c o d at)) = outputs_of c.formals
+outputs_of_thing (Good (A_method m o at)) = outputs_of_action m.action
+outputs_of_thing (Good (Its_result c o v at)) = outputs_of c.formals
+outputs_of_thing th = []
+
+-- ---- one more suffix, over its parts
+
+-- a call of what stands before it
+abbrev pub called_step : Around → Place → Checked Thing → List Arg → Checked Thing
+called_step ar pe th as' = and_behind (th ▷ after_actuals ar pe as') th (λ _. values_stand as')
+
+-- `[i]` behind what it selects from, as a thing and as a value
+abbrev pub select_step : Around → (at : Place) → (pi : Place) → Checked Thing → Checked Typed → Checked Typed → Checked Thing
+select_step ar at pi th v i = and_behind (given A_value (v ▷ (λ t. select_of ar at pi t i))) th (λ _. only i)
+
+-- `[l:r]`, `[b +: w]` or `[b -: w]` behind what it selects from
+abbrev pub part_step :
+    PartWord → (at : Place) → Place → (pl : Place) → (pr : Place) → Checked Thing → Checked Typed → Checked Typed → Checked Typed
+    → Checked Thing
+part_step w at pe pl pr th v l r =
+    and_behind (given A_value (v ▷ (λ t. part_select_of w at pe pl pr t l r))) th (λ _. only (both l r))
 
 -- ---- `$`
 

@@ -28,7 +28,8 @@ use Rattle.sv_names.specs.Checked.{given, rule, ◌where_also◌, all, place_bef
 use Rattle.sv_names.specs.Types.{Path, same_path, has_path, is_fixed, size_of_type}
 use Rattle.sv_names.specs.Named.{Around, meaning, is_derived, result_named}
 use Rattle.sv_names.specs.Targets.{Spot, type_of_target}
-use Rattle.sv_names.specs.Methods
+use Rattle.sv_names.specs.declared.method.Action.{Action}
+use Rattle.sv_names.specs.declared.method.Action.TheVariants as action
 use Rattle.sv_names.specs.Calls.{is_output}
 use Rattle.sv_names.specs.Things.{Thing, A_subroutine, A_method, Its_result, root_thing, dollar_in}
 use Rattle.sv_names.specs.Expressions.{things, target, target_in, before_select, as_expr, with_dollar, System, Cast, system_of}
@@ -112,13 +113,13 @@ abbrev pub container_touches : Typed → List Touch
 container_touches o = written_by o.at o.target.begins
 
 -- what a method of the language writes
-abbrev pub action_touches : Around → Methods.Action → Typed → tree.Exprs → List Touch
-action_touches ar (Methods.Push e) o es = container_touches o
-action_touches ar (Methods.Pop e) o es = container_touches o
-action_touches ar Methods.Insert o es = container_touches o
-action_touches ar Methods.Delete o es = container_touches o
-action_touches ar (Methods.Walk w) o es = first_target ar es
-action_touches ar (Methods.Get p w) o es = first_target ar es
+abbrev pub action_touches : Around → Action → Typed → tree.Exprs → List Touch
+action_touches ar (action.Push e) o es = container_touches o
+action_touches ar (action.Pop e) o es = container_touches o
+action_touches ar action.Insert o es = container_touches o
+action_touches ar action.Delete o es = container_touches o
+action_touches ar (action.Walk w) o es = first_target ar es
+action_touches ar (action.Get p w) o es = first_target ar es
 action_touches ar m o es = []
 
 -- what a call writes and calls
