@@ -1,11 +1,11 @@
 // Concatenations and replications (IEEE 1800-2017, 11.4.12): E13, E15, E42.
-ghost use Rattle.std.specs.Prelude.{◌≡◌, ◌∷◌, ◌*◌, ℕ, List, IfOk, IfErr};
+ghost use Rattle.std.specs.Prelude.{◌≡◌, ◌*◌, ℕ, List, IfOk, IfErr};
 ghost use Rattle.sv_flat.specs.Expr as flat;
 ghost use Rattle.sv_names.specs.declared.checked.Checked.{Checked as checked};
 ghost use Rattle.sv_names.specs.declared.checked.Checked.TheVariants.{Good};
 ghost use Rattle.sv_names.specs.declared.typed.Typed.{Typed as typed};
 ghost use Rattle.sv_names.specs.declared.refusal.Refusal.TheVariants.{Memory};
-ghost use Rattle.sv_names.specs.Checked.{◌▷◌, given, both as both_of};
+ghost use Rattle.sv_names.specs.Checked.{◌▷◌};
 ghost use Rattle.sv_names.specs.Hoisted as hoisted;
 ghost use Rattle.sv_names.specs.Operators as operators;
 ghost use Rattle.sv_names.specs.Types as types;
@@ -18,61 +18,6 @@ use sv_elab_value::{code_of, converted, expr_of, not_too_wide, paired, value_typ
 use sv_flat::{Expr, ExprForm};
 use sv_names::{Hoisted, Refusal, Ty, Typed, both, plain_vector};
 use sv_value::{Integral, Place, Seq};
-
-// ---- the parts
-
-/// E15, E42: a part is a number or a string.
-fn joinable(at: Place, t: Typed) -> Result<Typed, Refusal>
-    ensures { Gives result (operators.joinable at t) }
-{
-    if t.ty.is_array() {
-        return Err(Refusal::Rule { rule: 42, at: t.at });
-    }
-    if t.ty.is_integral() || t.ty.is_text() {
-        Ok(t)
-    } else {
-        Err(Refusal::Rule { rule: 15, at })
-    }
-}
-
-/// A part, where it breaks no rule before.
-fn part(at: Place, a: Result<Typed, Refusal>) -> Result<Typed, Refusal>
-    ensures { (x : checked typed) → Gives a x → Gives result (x ▷ operators.joinable at) }
-{
-    match a {
-        Ok(t) => joinable(at, t),
-        Err(e) => Err(e),
-    }
-}
-
-/// A list with one part before it.
-fn put_before(
-    at: Place,
-    t: Typed,
-    parts: Seq<(Place, Typed)>,
-) -> Result<Seq<(Place, Typed)>, Refusal>
-    ensures ok { IfOk result (λ ps. ps ≡ (at, t) ∷ parts) }
-    ensures err { IfErr result (λ e. e ≡ Memory) }
-{
-    let mut parts = parts.into_vec();
-    parts.insert(0, (at, t))?;
-    Ok(Seq::from_vec(parts))
-}
-
-/// A part, and those that stand behind it.
-pub fn with_part(
-    at: Place,
-    a: Result<Typed, Refusal>,
-    rest: Result<Seq<(Place, Typed)>, Refusal>,
-) -> Result<Seq<(Place, Typed)>, Refusal>
-    ensures { (x : checked typed) (y : checked (List operators.Placed)) → Gives a x → Gives rest y
-        → Gives result (given (λ p. (at, p.0) ∷ p.1) (both_of (x ▷ operators.joinable at) y)) }
-{
-    match both(part(at, a), rest) {
-        Ok((t, parts)) => put_before(at, t, parts),
-        Err(e) => Err(e),
-    }
-}
 
 // ---- how wide they are
 

@@ -9,11 +9,13 @@ mod choices;
 mod concatenations;
 mod literals;
 mod operators;
+mod placed;
 mod strings;
 
 pub use casts::{atom_type, cast_number, has_four_states, number_cast, sized};
 pub use choices::choose;
-pub use concatenations::{join, repeat, with_part};
+pub use concatenations::{join, repeat};
 pub use literals::{null, number};
 pub use operators::{binary, binary_typed, comparison, context_of, kind_of, numbers, power, unary};
+pub use placed::parts;
 pub use strings::string;

@@ -1,15 +1,16 @@
 // The parts of a concatenation (IEEE 1800-2017, 11.4.12): E15, E42.
-ghost use Rattle.std.specs.Prelude.{◌≡◌, IfOk, IfErr};
+ghost use Rattle.std.specs.Prelude.{◌≡◌, ◌∷◌, List, IfOk, IfErr};
+ghost use Rattle.sv_names.specs.declared.argument.Arg.{Arg as arg};
 ghost use Rattle.sv_names.specs.declared.checked.Checked.{Checked as checked_of};
 ghost use Rattle.sv_names.specs.declared.refusal.Refusal.TheVariants.{Memory};
 ghost use Rattle.sv_names.specs.declared.typed.Typed.{Typed as typed};
 ghost use Rattle.sv_names.specs.Arguments as arguments;
 ghost use Rattle.sv_names.specs.Checked.{◌▷◌, given};
+ghost use Rattle.sv_names.specs.Joined.{joined};
 ghost use Rattle.sv_names.specs.Operators as operators;
 ghost use Rattle.sv_names.specs.Given.{Gives};
 
 use std::alloc::Global;
-use sv_elab_value::value_of_arg;
 use sv_names::{Arg, Checked, Refusal, Taken, Typed, and_next, answer, judged};
 use sv_value::{Place, Seq};
 
@@ -76,7 +77,7 @@ fn part(first: Option<bool>, a: Arg) -> Result<(Place, Typed), Refusal>
     ensures { Gives result (given (λ t. (a.at, t)) (arguments.value_of_arg a ▷ operators.joins first a.at)) }
 {
     let at = a.at;
-    placed(at, value_joins(first, at, value_of_arg(a)))
+    placed(at, value_joins(first, at, a.into_value()))
 }
 
 /// Whether a value is a string, where it is a part.
@@ -106,6 +107,20 @@ fn first_kind(args: &[Arg]) -> Option<bool>
     }
 }
 
+/// Parts, and one more behind them.
+#[tactic(auto, using(sv_names::proofs::Joined::next_joined))]
+fn and_part(
+    list: Checked<Seq<(Place, Typed)>>,
+    first: Option<bool>,
+    a: Arg,
+) -> Result<Checked<Seq<(Place, Typed)>>, Refusal>
+    ensures ok { IfOk result (λ c. (as' : List arg) → joined c (arguments.parts_beside first as') ≡ joined list (arguments.parts_beside first (a ∷ as'))) }
+    ensures err { IfErr result (λ e. e ≡ Memory) }
+{
+    let next = judged(part(first, a))?;
+    and_next(list, next)
+}
+
 /// The parts of a concatenation, or the first rule that one of them breaks.
 pub fn parts(alloc: Global, args: Seq<Arg>) -> Result<Seq<(Place, Typed)>, Refusal>
     ensures { Gives result (arguments.parts_of args) }
@@ -113,8 +128,7 @@ pub fn parts(alloc: Global, args: Seq<Arg>) -> Result<Seq<(Place, Typed)>, Refus
     let first = first_kind(args.as_slice());
     let mut list = Checked::Good(Seq::new(alloc));
     for a in args.into_vec() {
-        let next = judged(part(first, a))?;
-        list = and_next(list, next)?;
+        list = and_part(list, first, a)?;
     }
     answer(list)
 }

@@ -1,21 +1,13 @@
-// Arguments as values (IEEE 1800-2017, 13.5).
-ghost use Rattle.std.specs.Prelude.{◌≡◌};
+// What arguments break by themselves (IEEE 1800-2017, 13.5).
+ghost use Rattle.std.specs.Prelude.{◌≡◌, ◌∷◌, List, IfOk, IfErr};
+ghost use Rattle.sv_names.specs.declared.argument.Arg.{Arg as arg};
+ghost use Rattle.sv_names.specs.declared.refusal.Refusal.TheVariants.{Memory};
 ghost use Rattle.sv_names.specs.Arguments as arguments;
-ghost use Rattle.sv_names.specs.Checked.{◌▷◌, rule};
+ghost use Rattle.sv_names.specs.Checked.{◌▷◌, ◌where_also◌, rule};
 ghost use Rattle.sv_names.specs.Types as types;
 ghost use Rattle.sv_names.specs.Given.{Gives};
 
 use sv_names::{Arg, Checked, Fault, Refusal, Taken, Typed, and_guard, answer, judged};
-
-/// An argument as a value; one that is taken as a target is none.
-pub fn value_of_arg(a: Arg) -> Result<Typed, Refusal>
-    ensures { Gives result (arguments.value_of_arg a) }
-{
-    match a.taken {
-        Taken::Value(value) => answer(value),
-        Taken::Target(_) => Err(Refusal::Rule { rule: 31, at: a.at }),
-    }
-}
 
 /// E42: no whole array.
 fn value_stands(value: &Checked<Typed>) -> Result<(), Refusal>
@@ -46,13 +38,23 @@ fn arg_stands(a: &Arg) -> Result<(), Refusal>
     }
 }
 
+/// What arguments break by themselves, and one more.
+#[tactic(auto, using(sv_names::proofs::Joined::next_guarded))]
+fn and_stands(stands: Checked<()>, a: &Arg) -> Result<Checked<()>, Refusal>
+    ensures ok { IfOk result (λ c. (as' : List arg) → c where_also arguments.values_stand as' ≡ stands where_also arguments.values_stand (a.now ∷ as')) }
+    ensures err { IfErr result (λ e. e ≡ Memory) }
+{
+    let next = judged(arg_stands(a))?;
+    Ok(and_guard(stands, next))
+}
+
 /// What arguments break by themselves.
 pub fn values_stand(args: &[Arg]) -> Result<(), Refusal>
     ensures { Gives result (arguments.values_stand args.now) }
 {
     let mut stands = Checked::Good(());
     for a in args {
-        stands = and_guard(stands, judged(arg_stands(a))?);
+        stands = and_stands(stands, a)?;
     }
     answer(stands)
 }

@@ -14,7 +14,7 @@ mod operands;
 mod parts;
 mod values;
 
-pub use arguments::{value_of_arg, values_stand};
+pub use arguments::values_stand;
 pub use folding::{alone, bits_of, folded, is_known, known_index};
 pub use operands::{index, item, number_index, number_operand, one_item, operand};
 pub use parts::{code_of, converted, expr_of, paired, pure, value_typed};

@@ -1,9 +1,10 @@
 -- Lists of parts, each of which may break a rule, do not depend on how they are grouped.
 use Rattle.std.proofs.Common.{◌≡◌, List, [], ◌∷◌, refl, ap, append_assoc, append-nil}
+use Rattle.sv_names.specs.declared.checked.Fault.{Fault}
 use Rattle.sv_names.specs.declared.checked.Checked.{Checked}
 use Rattle.sv_names.specs.declared.checked.Checked.TheVariants.{Good, Broken}
 use Rattle.sv_names.specs.Checked.{put_before, ◌where_also◌}
-use Rattle.sv_names.specs.Joined.{put_behind, joined}
+use Rattle.sv_names.specs.Joined.{put_behind, joined, earlier_in}
 use Rattle.sv_names.proofs.Earlier.{earlier_assoc}
 
 -- a part that is put behind a list stands before what follows
@@ -38,3 +39,10 @@ next_guarded (Broken f) (Good b) (Good c) = refl
 next_guarded (Broken f) (Good b) (Broken h) = refl
 next_guarded (Broken f) (Broken g) (Good c) = refl
 next_guarded (Broken f) (Broken g) (Broken h) = ap Broken (earlier_assoc f g h)
+
+-- a part behind a list that breaks a rule
+pub broken_joined : {A : Type 0} (f : Fault) (x : Checked A) (ys : Checked (List A)) → joined (Broken (earlier_in f x)) ys ≡ joined (Broken f) (put_before x ys)
+broken_joined f (Good x) (Good ys) = refl
+broken_joined f (Good x) (Broken h) = refl
+broken_joined f (Broken g) (Good ys) = refl
+broken_joined f (Broken g) (Broken h) = ap Broken (earlier_assoc f g h)

@@ -1,5 +1,6 @@
 -- Arguments of calls and parts of concatenations, once each is elaborated behind those before it (IEEE 1800-2017, 11.4.12 and 13.5).
 use Rattle.std.specs.Prelude.{Bool, true, false, ◌&&◌, List, [], ◌∷◌, Option, None}
+use Rattle.sv_value.specs.declared.place.Place.{Place}
 use Rattle.sv_names.specs.declared.argument.Arg.{Arg}
 use Rattle.sv_names.specs.declared.argument.Taken.{Taken}
 use Rattle.sv_names.specs.declared.argument.Taken.TheVariants.{Value, Target}
@@ -11,12 +12,12 @@ use Rattle.sv_names.specs.Types.{is_array}
 use Rattle.sv_names.specs.Operators.{Placed, joinable, first_is_text, joins}
 
 -- an argument as a value; one that is taken as a target is none
+abbrev pub value_of_taken : Place → Taken → Checked Typed
+value_of_taken at (Value c) = c
+value_of_taken at (Target c) = broken_at 31 at
+
 abbrev pub value_of_arg : Arg → Checked Typed
-value_of_arg a = of_taken a.taken
-  where
-    of_taken : Taken → Checked Typed
-    of_taken (Value c) = c
-    of_taken (Target c) = broken_at 31 a.at
+value_of_arg a = value_of_taken a.at a.taken
 
 -- what arguments break by themselves
 abbrev pub values_stand : List Arg → Checked (Unit {0})

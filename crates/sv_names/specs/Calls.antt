@@ -105,13 +105,18 @@ written_argument ar false at t ss = takes ar at t ss ▷ (λ _. Good (as_output 
 written_argument ar true at t ss =
     (assigned ar t at (read_of at ss) where_also takes ar at t ss) ▷ (λ e. Good (as_inout (lvalues ar ss) e))
 
+-- E31: a value where a target stands; what it breaks by itself may stand before
+abbrev pub no_target_of : Place → Checked Typed → Checked (List Spot)
+no_target_of at c = both (broken_at 31 at) c ▷ (λ p. Good p.0)
+
+-- what is taken as a target
+abbrev pub target_of_taken : Place → Taken → Checked (List Spot)
+target_of_taken at (Target c) = c
+target_of_taken at (Value c) = no_target_of at c
+
 -- E31: an output argument is a target
 abbrev pub target_argument : Arg → Checked (List Spot)
-target_argument a = of_taken a.taken
-  where
-    of_taken : Taken → Checked (List Spot)
-    of_taken (Target c) = c
-    of_taken (Value c) = both (broken_at 31 a.at) c ▷ (λ p. Good p.0)
+target_argument a = target_of_taken a.at a.taken
 
 -- an argument by its direction
 abbrev pub argument : Around → Direction → Checked Ty → Arg → Checked (Hoisted Argument)
