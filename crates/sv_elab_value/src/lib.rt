@@ -2,19 +2,22 @@
 //!
 //! - `parts` has what stands before a statement, and typed expressions that are no targets; `operands` numbers and single items.
 //! - `constants` has the values of constant expressions, `folding` the literals that stand for them.
-//! - `values` has constant numbers, and values for targets; `arguments` arguments as values.
+//! - `values` has constant numbers, and values for targets that are numbers or containers; `fits` values for targets of any type.
+//! - `arguments` has what arguments break by themselves.
 //!
 //! Each function answers what its definition in `sv_names` gives, or the first rule that is broken, or that memory ran out.
 #![tactic(auto)]
 
 mod arguments;
 mod constants;
+mod fits;
 mod folding;
 mod operands;
 mod parts;
 mod values;
 
 pub use arguments::values_stand;
+pub use fits::{assigned, common_reference, exactly, fits_class, item_assigned};
 pub use folding::{alone, bits_of, folded, is_known, known_index};
 pub use operands::{index, item, number_index, number_operand, one_item, operand};
 pub use parts::{code_of, converted, expr_of, paired, pure, value_typed};

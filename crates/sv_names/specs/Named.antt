@@ -238,13 +238,14 @@ how_many (k ∷ ks) = suc (how_many ks)
 abbrev pub line_of : List ClassInfo → Path → List ClassInfo
 line_of ks p = line_from (how_many ks) ks (Some p)
 
+-- whether a class stands in a line
+abbrev pub in_line : Path → List ClassInfo → Bool
+in_line q [] = false
+in_line q (k ∷ ks) = same_path k.path q || in_line q ks
+
 -- whether a class is another one, or derived from it
 abbrev pub is_derived : List ClassInfo → Path → Path → Bool
-is_derived ks p q = any (line_of ks p)
-  where
-    any : List ClassInfo → Bool
-    any [] = false
-    any (k ∷ more) = same_path k.path q || any more
+is_derived ks p q = in_line q (line_of ks p)
 
 -- the rule that the last base of a line breaks
 abbrev pub broken_end : List ClassInfo → Option Fault
@@ -260,14 +261,15 @@ abbrev pub member_in : List ℕ → List ClassInfo → Option (Checked Named)
 member_in x [] = None
 member_in x (k ∷ ks) = nearest (in_known 0 0 x k.scope.known) (member_in x ks)
 
+-- a member that is a method, or else one of the bases
+abbrev pub method_or : Option (Checked Named) → Option Callee → Option Callee
+method_or (Some (Good (Subroutine c))) further = Some c
+method_or m further = further
+
 -- the most derived method of a name
 abbrev pub method_in : List ℕ → List ClassInfo → Option Callee
 method_in x [] = None
-method_in x (k ∷ ks) = or_base (in_known 0 0 x k.scope.known) (method_in x ks)
-  where
-    or_base : Option (Checked Named) → Option Callee → Option Callee
-    or_base (Some (Good (Subroutine c))) further = Some c
-    or_base m further = further
+method_in x (k ∷ ks) = method_or (in_known 0 0 x k.scope.known) (method_in x ks)
 
 -- a member of a class by its name
 abbrev pub member_of : Around → Path → List ℕ → Option (Checked Named)
@@ -295,10 +297,11 @@ abbrev pub of_bases : List ClassInfo → ℕ
 of_bases [] = 0
 of_bases (k ∷ ks) = all_properties k.scope.known + of_bases ks
 
+-- how many variables of an object stand before a property
+abbrev pub before_in_line : List ℕ → List ClassInfo → ℕ
+before_in_line x [] = 0
+before_in_line x (k ∷ ks) = properties_before x k.scope.known + of_bases ks
+
 -- the place of a property in an object
 abbrev pub property_place : Around → Path → List ℕ → ℕ
-property_place ar p x = min (counted (line_of ar.classes p)) (2 ^ 32 - 1)
-  where
-    counted : List ClassInfo → ℕ
-    counted [] = 0
-    counted (k ∷ ks) = properties_before x k.scope.known + of_bases ks
+property_place ar p x = min (before_in_line x (line_of ar.classes p)) (2 ^ 32 - 1)

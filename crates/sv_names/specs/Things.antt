@@ -105,17 +105,18 @@ lasts ar at = rule 51 at ar.is_printed_later
 
 -- ---- `this` and `super`
 
+-- E39: the variable that holds the object at hand
+abbrev pub this_variable : Around → Place → Option (Checked Named) → Checked Typed
+this_variable ar at (Some (Good (Local u p t))) = Good (local_typed ar at u p t The_object)
+this_variable ar at n = broken_at 39 at
+
 -- E38, E39: the object at hand (8.11)
 abbrev pub this_typed : Around → Place → Checked Typed
 this_typed ar at = in_class ar.class (found ar (codes "this"))
   where
-    of_named : Option (Checked Named) → Checked Typed
-    of_named (Some (Good (Local u p t))) = Good (local_typed ar at u p t The_object)
-    of_named n = broken_at 39 at
-
     in_class : Option Path → Option (Checked Named) → Checked Typed
     in_class None n = broken_at 38 at
-    in_class (Some k) n = if ar.has_object then of_named n else broken_at 39 at
+    in_class (Some k) n = if ar.has_object then this_variable ar at n else broken_at 39 at
 
 -- the object at hand, if there is one
 abbrev pub at_hand : Around → Place → Option Typed
