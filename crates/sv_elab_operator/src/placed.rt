@@ -1,11 +1,10 @@
 // The parts of a concatenation (IEEE 1800-2017, 11.4.12): E15, E42.
-ghost use Rattle.std.specs.Prelude.{◌≡◌, ◌∷◌, List, IfOk, IfErr};
-ghost use Rattle.sv_names.specs.declared.argument.Arg.{Arg as arg};
+ghost use Rattle.std.specs.Prelude.{◌≡◌, List, IfOk, IfErr};
 ghost use Rattle.sv_names.specs.declared.checked.Checked.{Checked as checked_of};
 ghost use Rattle.sv_names.specs.declared.refusal.Refusal.TheVariants.{Memory};
 ghost use Rattle.sv_names.specs.declared.typed.Typed.{Typed as typed};
 ghost use Rattle.sv_names.specs.Arguments as arguments;
-ghost use Rattle.sv_names.specs.Checked.{◌▷◌, given};
+ghost use Rattle.sv_names.specs.Checked.{◌▷◌, given, put_before};
 ghost use Rattle.sv_names.specs.Joined.{joined};
 ghost use Rattle.sv_names.specs.Operators as operators;
 ghost use Rattle.sv_names.specs.Given.{Gives};
@@ -108,13 +107,14 @@ fn first_kind(args: &[Arg]) -> Option<bool>
 }
 
 /// Parts, and one more behind them.
-#[tactic(auto, using(sv_names::proofs::Joined::next_joined))]
+
 fn and_part(
     list: Checked<Seq<(Place, Typed)>>,
     first: Option<bool>,
     a: Arg,
 ) -> Result<Checked<Seq<(Place, Typed)>>, Refusal>
-    ensures ok { IfOk result (λ c. (as' : List arg) → joined c (arguments.parts_beside first as') ≡ joined list (arguments.parts_beside first (a ∷ as'))) }
+    ensures ok { IfOk result (λ c. (ys : checked_of (List operators.Placed)) → joined c ys
+        ≡ joined list (put_before (given (λ t. (a.at, t)) (arguments.value_of_arg a ▷ operators.joins first a.at)) ys)) }
     ensures err { IfErr result (λ e. e ≡ Memory) }
 {
     let next = judged(part(first, a))?;
@@ -122,6 +122,7 @@ fn and_part(
 }
 
 /// The parts of a concatenation, or the first rule that one of them breaks.
+
 pub fn parts(alloc: Global, args: Seq<Arg>) -> Result<Seq<(Place, Typed)>, Refusal>
     ensures { Gives result (arguments.parts_of args) }
 {
