@@ -1,15 +1,13 @@
 -- What is judged before it is made.
-use Rattle.std.proofs.Common.{◌≡◌, ℕ, ◌+◌, Bool, true, false, not, cond, ℤ, pos, refl, ap, sym, ◌∙◌, subst}
+use Rattle.std.proofs.Common.{◌≡◌, ℕ, ◌+◌, Bool, true, false, not, ℤ, pos, refl, ap, sym, ◌∙◌, subst}
 use Rattle.std.specs.Prelude.{◌-ℤ◌, ◌+ℤ◌, nat_abs, Result, if◌then◌else◌}
 use Rattle.sv_value.specs.declared.place.Place.{Place}
 use Rattle.sv_flat.specs.declared.object.Bounds.{Bounds}
 use Rattle.sv_tree.specs.declared.word.PartWord.{PartWord}
-use Rattle.sv_names.specs.declared.checked.Fault.{Fault}
 use Rattle.sv_names.specs.declared.checked.Checked.{Checked}
 use Rattle.sv_names.specs.declared.checked.Checked.TheVariants.{Good, Broken}
 use Rattle.sv_names.specs.declared.refusal.Refusal.{Refusal}
 use Rattle.sv_names.specs.declared.refusal.Refusal.TheVariants.{Rule, Memory}
-use Rattle.sv_names.specs.declared.typed.How.{How}
 use Rattle.sv_names.specs.declared.typed.Typed.{Typed}
 use Rattle.sv_names.specs.Checked.{both, ◌▷◌, broken_at, ◌where_also◌}
 use Rattle.sv_names.specs.Given.{Fails, Gives}

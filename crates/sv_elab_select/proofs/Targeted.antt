@@ -12,7 +12,7 @@ use Rattle.sv_names.specs.declared.refusal.Refusal.{Refusal}
 use Rattle.sv_names.specs.declared.hoisted.Hoisted.{Hoisted}
 use Rattle.sv_names.specs.declared.typed.How.{How}
 use Rattle.sv_names.specs.declared.typed.Typed.{Typed}
-use Rattle.sv_names.specs.Checked.{◌▷◌, ◌where_also◌, all, broken_at}
+use Rattle.sv_names.specs.Checked.{◌▷◌, ◌where_also◌, all}
 use Rattle.sv_names.specs.Given.{Fails}
 use Rattle.sv_names.specs.Hoisted.{pure, paired}
 use Rattle.sv_names.specs.Named.{Around}
