@@ -1,0 +1,230 @@
+// What follows a dot, and what `$` stands for in an index (IEEE 1800-2017, 7.10.1, 8 and 14): E7, E36.
+ghost use Rattle.std.specs.Prelude.{◌≡◌, Some, IfOk, IfErr};
+ghost use Rattle.sv_flat.specs.Expr as flat;
+ghost use Rattle.sv_names.specs.declared.checked.Checked.{Checked as checked};
+ghost use Rattle.sv_names.specs.declared.checked.Checked.TheVariants.{Good};
+ghost use Rattle.sv_names.specs.declared.refusal.Refusal.TheVariants.{Memory};
+ghost use Rattle.sv_names.specs.declared.typed.Typed.{Typed as typed};
+ghost use Rattle.sv_names.specs.Calls as calls;
+ghost use Rattle.sv_names.specs.Checked.{◌▷◌, given, unless};
+ghost use Rattle.sv_names.specs.Given.{Gives, GivesAs};
+ghost use Rattle.sv_names.specs.Methods as methods;
+ghost use Rattle.sv_names.specs.Things as things;
+ghost use Rattle.sv_names.specs.Things.{Thing as thing_of};
+ghost use Rattle.sv_names.specs.Views.{around_in};
+ghost use Rattle.sv_elab_name.specs.Things.{thing_in};
+
+use crate::{Thing, member_named, method_of};
+use std::alloc::Global;
+use sv_elab_value::expr_of;
+use sv_flat::{Expr, ExprForm};
+use sv_names::{
+    Around, Checked, Dollar, Fault, Refusal, SignalInfo, Ty, Typed, copy_expr, copy_path,
+    same_bytes,
+};
+use sv_tree::Name;
+use sv_value::{BinOp, Bits, Place, Text};
+
+// ---- members of values
+
+/// E36: a method of the language.
+fn method_member<'a>(alloc: Global, name: &Name, object: Typed) -> Result<Thing<'a>, Refusal>
+    ensures { GivesAs thing_in result
+        (given (λ m. things.A_method m object name.now.at) (unless 36 name.now.at (methods.method_of object.ty name.now.text))) }
+{
+    match method_of(alloc, &object.ty, name.text.bytes())? {
+        None => Err(Refusal::Rule {
+            rule: 36,
+            at: name.at,
+        }),
+        Some(method) => Ok(Thing::Method {
+            method,
+            object,
+            at: name.at,
+        }),
+    }
+}
+
+/// A member of an object of a class, or a method of the language. E36: there is none.
+pub fn value_member<'a>(
+    alloc: Global,
+    around: &Around<'a>,
+    name: &Name,
+    object: Typed,
+) -> Result<Thing<'a>, Refusal>
+    ensures { GivesAs thing_in result (things.value_member (around_in around.now) name.now object object.ty) }
+{
+    match &object.ty {
+        Ty::Class(class) => {
+            let class = copy_path(alloc, class.as_slice())?;
+            member_named(alloc, around, class.as_slice(), Some(object), false, name)
+        }
+        _ => method_member(alloc, name, object),
+    }
+}
+
+/// The same, where the value breaks no rule before.
+pub(crate) fn member_of_value<'a>(
+    alloc: Global,
+    around: &Around<'a>,
+    name: &Name,
+    value: Result<Typed, Refusal>,
+) -> Result<Thing<'a>, Refusal>
+    ensures { (x : checked typed) → Gives value x
+        → GivesAs thing_in result (x ▷ (λ o. things.value_member (around_in around.now) name.now o o.ty)) }
+{
+    match value {
+        Ok(object) => value_member(alloc, around, name, object),
+        Err(e) => Err(e),
+    }
+}
+
+// ---- signals
+
+/// A signal of a clocking block.
+fn the_signal<'a>(
+    block: &'a [Text],
+    place: usize,
+    signal: &'a SignalInfo,
+    name: &Name,
+) -> Result<Thing<'a>, Refusal>
+    ensures { GivesAs thing_in result (Good (things.The_signal block.now place signal.now name.now.at)) }
+{
+    match u32::try_from(place) {
+        Ok(place) => Ok(Thing::Signal {
+            block,
+            place,
+            signal,
+            at: name.at,
+        }),
+        Err(_) => Err(Refusal::Memory),
+    }
+}
+
+/// E36: a signal of a clocking block, by its name. Where there is none, but one of the signals breaks a rule, the first of these rules.
+pub fn signal_named<'a>(
+    path: &'a [Text],
+    name: &Name,
+    signals: &'a [Checked<SignalInfo>],
+) -> Result<Thing<'a>, Refusal>
+    ensures { GivesAs thing_in result (things.signal_named path.now name.now 0 signals.now) }
+{
+    let mut broken: Option<Fault> = None;
+    for (i, signal) in signals.iter().enumerate() {
+        match signal {
+            Checked::Broken(fault) => broken = broken.or(Some(*fault)),
+            Checked::Good(signal) => {
+                if same_bytes(signal.name.text.bytes(), name.text.bytes()) {
+                    return the_signal(path, i, signal, name);
+                }
+            }
+        }
+    }
+    match broken {
+        Some(fault) => Err(fault.refusal()),
+        None => Err(Refusal::Rule {
+            rule: 36,
+            at: name.at,
+        }),
+    }
+}
+
+// ---- what follows a dot
+
+/// What follows a dot, where the thing before it breaks no rule.
+pub fn after_dot<'a>(
+    alloc: Global,
+    around: &Around<'a>,
+    place: Place,
+    name: &Name,
+    thing: Result<Thing<'a>, Refusal>,
+) -> Result<Thing<'a>, Refusal>
+    ensures { (x : checked thing_of) → GivesAs thing_in thing.entry x
+        → GivesAs thing_in result (x ▷ things.after_dot (around_in around.now) place name.now) }
+{
+    match thing {
+        Ok(thing) => thing.member(alloc, around, place, name),
+        Err(e) => Err(e),
+    }
+}
+
+// ---- `$`
+
+/// The number of items of a container.
+pub fn size_expr(alloc: Global, container: &Expr) -> Result<Expr, Refusal>
+    ensures ok { IfOk result (λ e. e ≡ calls.size_expr container.now) }
+    ensures err { IfErr result (λ e. e ≡ Memory) }
+{
+    match &*container.form {
+        ExprForm::Field { place, object, .. } => {
+            let container = copy_expr(alloc, object)?;
+            let property = Some(*place);
+            expr_of(
+                alloc,
+                ExprForm::Size {
+                    property,
+                    container,
+                },
+            )
+        }
+        _ => {
+            let container = copy_expr(alloc, container)?;
+            let property = None;
+            expr_of(
+                alloc,
+                ExprForm::Size {
+                    property,
+                    container,
+                },
+            )
+        }
+    }
+}
+
+/// The index of the last item of a queue.
+fn last_index(alloc: Global, queue: &Expr) -> Result<Expr, Refusal>
+    ensures ok { IfOk result (λ e. e ≡ things.last_index queue.now) }
+    ensures err { IfErr result (λ e. e ≡ Memory) }
+{
+    let left = size_expr(alloc, queue)?;
+    let value = Bits::new(32, true, 1, 0);
+    let right = expr_of(alloc, ExprForm::Literal { value, fill: None })?;
+    let op = BinOp::Sub;
+    expr_of(alloc, ExprForm::Binary { op, left, right })
+}
+
+/// What `$` stands for in an index of a value.
+fn dollar_of(alloc: Global, t: &Typed) -> Result<Dollar, Refusal>
+    ensures ok { IfOk result (λ d. d ≡ things.dollar_in (Good (things.A_value t.now))) }
+    ensures err { IfErr result (λ e. e ≡ Memory) }
+{
+    if t.ty.is_queue() {
+        let index = last_index(alloc, &t.code.value)?;
+        Ok(Dollar::LastIndex(index))
+    } else {
+        Ok(Dollar::NoDollar)
+    }
+}
+
+/// What `$` stands for in an index behind a thing (7.10.1): the index of the last item of a queue; nothing behind another thing.
+pub fn dollar_in(alloc: Global, thing: &Result<Thing, Refusal>) -> Result<Dollar, Refusal>
+    ensures ok { (x : checked thing_of) → GivesAs thing_in thing.now x → IfOk result (λ d. d ≡ things.dollar_in x) }
+    ensures err { IfErr result (λ e. e ≡ Memory) }
+{
+    match thing {
+        Ok(thing) => match thing {
+            Thing::Value(t) => dollar_of(alloc, t),
+            Thing::Subroutine { .. } => Ok(Dollar::NoDollar),
+            Thing::Method { .. } => Ok(Dollar::NoDollar),
+            Thing::ItsResult { .. } => Ok(Dollar::NoDollar),
+            Thing::Block { .. } => Ok(Dollar::NoDollar),
+            Thing::Signal { .. } => Ok(Dollar::NoDollar),
+            Thing::TypeName { .. } => Ok(Dollar::NoDollar),
+        },
+        Err(Refusal::Memory) => Err(Refusal::Memory),
+        Err(Refusal::Rule { rule, at }) => Ok(Dollar::UnknownDollar(Fault {
+            at: *at,
+            rule: *rule,
+        })),
+    }
+}

@@ -1,0 +1,256 @@
+// What a name with its members and calls can stand for.
+ghost use Rattle.std.specs.Prelude.{◌≡◌};
+ghost use Rattle.sv_names.specs.declared.checked.Checked.TheVariants.{Good};
+ghost use Rattle.sv_names.specs.Given.{Gives, GivesAs};
+ghost use Rattle.sv_names.specs.Things as things;
+ghost use Rattle.sv_names.specs.Views.{around_in};
+ghost use Rattle.sv_elab_name.specs.Things.{thing_in};
+
+use crate::suffixes::member_of_value;
+use crate::value::{bare_method, bare_subroutine, result_value};
+use crate::{Method, signal_named, signal_read, value_member};
+use std::alloc::Global;
+use sv_names::{Around, Callee, Checked, Refusal, SignalInfo, Ty, Typed};
+use sv_tree::Name;
+use sv_value::{Place, Text};
+
+/// What a name with its members and calls can stand for. The declarations that it names are those of the scopes around.
+pub enum Thing<'a> {
+    /// A value.
+    Value(Typed),
+    /// A subroutine (13), or a method (8.6).
+    Subroutine {
+        /// Its head.
+        callee: &'a Callee,
+        /// The object that it is called for.
+        object: Option<Typed>,
+        /// Whether `super` or `::` names it, so that it is called itself where it is virtual.
+        is_direct: bool,
+        /// Its name.
+        at: Place,
+    },
+    /// A method of the language (6.16, 6.19, 7.5 to 7.10 and 15).
+    Method {
+        /// What it does.
+        method: Method,
+        /// What it is called for.
+        object: Typed,
+        /// Its name.
+        at: Place,
+    },
+    /// A function inside itself, with its result variable (13.4.1).
+    ItsResult {
+        /// Its head.
+        callee: &'a Callee,
+        /// The object that it is called for.
+        object: Option<Typed>,
+        /// Its result variable.
+        variable: Typed,
+        /// Its name.
+        at: Place,
+    },
+    /// A clocking block (14.3).
+    Block {
+        /// Its name from the root.
+        path: &'a [Text],
+        /// Its signals in order.
+        signals: &'a [Checked<SignalInfo>],
+        /// Its name.
+        at: Place,
+    },
+    /// A signal of a clocking block (14.3).
+    Signal {
+        /// The block.
+        block: &'a [Text],
+        /// The place of the signal in it.
+        place: u32,
+        /// The signal.
+        signal: &'a SignalInfo,
+        /// Its name.
+        at: Place,
+    },
+    /// A type, or a class.
+    TypeName {
+        /// The type.
+        ty: Ty,
+        /// Its name.
+        at: Place,
+    },
+}
+
+impl Drop for Thing<'_> {
+    fn drop(self) {
+        match self {
+            Thing::Value(_) => {}
+            Thing::Subroutine {
+                callee: _,
+                object: _,
+                is_direct: _,
+                at: _,
+            } => {}
+            Thing::Method {
+                method: _,
+                object: _,
+                at: _,
+            } => {}
+            Thing::ItsResult {
+                callee: _,
+                object: _,
+                variable: _,
+                at: _,
+            } => {}
+            Thing::Block {
+                path: _,
+                signals: _,
+                at: _,
+            } => {}
+            Thing::Signal {
+                block: _,
+                place: _,
+                signal: _,
+                at: _,
+            } => {}
+            Thing::TypeName { ty: _, at: _ } => {}
+        }
+    }
+}
+
+/// How many hidden variables an object takes.
+fn hidden_in_object(object: &Option<Typed>) -> usize
+    ensures { result ≡ things.hidden_in_object object.now }
+{
+    match object {
+        None => 0,
+        Some(o) => o.code.hidden.as_slice().len(),
+    }
+}
+
+impl Thing<'_> {
+    /// The name that stands for it in a rule.
+    pub fn place(&self) -> Place
+        ensures { result ≡ things.thing_place (thing_in self.now) }
+    {
+        match self {
+            Thing::Value(t) => t.at,
+            Thing::Subroutine { at, .. } => *at,
+            Thing::Method { at, .. } => *at,
+            Thing::ItsResult { at, .. } => *at,
+            Thing::Block { at, .. } => *at,
+            Thing::Signal { at, .. } => *at,
+            Thing::TypeName { at, .. } => *at,
+        }
+    }
+
+    /// How many hidden variables stand before the arguments of what is called.
+    pub fn hidden_before(&self) -> usize
+        ensures { result ≡ things.hidden_before (Good (thing_in self.now)) }
+    {
+        match self {
+            Thing::Value(t) => t.code.hidden.as_slice().len(),
+            Thing::Subroutine { object, .. } => hidden_in_object(object),
+            Thing::Method { object, .. } => object.code.hidden.as_slice().len(),
+            Thing::ItsResult { object, .. } => hidden_in_object(object),
+            Thing::Block { .. } => 0,
+            Thing::Signal { .. } => 0,
+            Thing::TypeName { .. } => 0,
+        }
+    }
+}
+
+// ---- what a thing is taken apart into
+
+impl<'a> Thing<'a> {
+    /// The thing as a value, in an expression that begins at the place. E7: it is a clocking block, a type or a function without brackets,
+    /// or the result variable of an activation in the initializer of a static one; E47: a signal that is no input; E51: a result variable
+    /// is printed later, and does not last. Calls without brackets are not written yet.
+    pub fn value(self, alloc: Global, around: &Around, place: Place) -> Result<Typed, Refusal>
+        ensures { Gives result (things.thing_value (around_in around.now) place (thing_in self.entry)) }
+    {
+        match self {
+            Thing::Value(t) => Ok(t),
+            Thing::Subroutine {
+                callee,
+                object,
+                is_direct,
+                at,
+            } => bare_subroutine(alloc, around, place, callee, object, is_direct, at),
+            Thing::Method {
+                method,
+                object,
+                at: _,
+            } => bare_method(alloc, around, place, method, object),
+            Thing::ItsResult {
+                callee: _,
+                object: _,
+                variable,
+                at,
+            } => result_value(around, at, variable),
+            Thing::Block {
+                path: _,
+                signals: _,
+                at,
+            } => Err(Refusal::Rule { rule: 7, at }),
+            Thing::Signal {
+                block,
+                place: number,
+                signal,
+                at,
+            } => signal_read(alloc, around, block, number, signal, at),
+            Thing::TypeName { ty: _, at } => Err(Refusal::Rule { rule: 7, at }),
+        }
+    }
+
+    /// What stands behind the thing and a dot, in an expression that begins at the place. E7: the thing is a type; E36: it has no such
+    /// member, signal or method; or a rule that it breaks as a value.
+    pub fn member(
+        self,
+        alloc: Global,
+        around: &Around<'a>,
+        place: Place,
+        name: &Name,
+    ) -> Result<Thing<'a>, Refusal>
+        ensures { GivesAs thing_in result (things.after_dot (around_in around.now) place name.now (thing_in self.entry)) }
+    {
+        match self {
+            Thing::Block {
+                path,
+                signals,
+                at: _,
+            } => signal_named(path, name, signals),
+            Thing::TypeName { ty: _, at } => Err(Refusal::Rule { rule: 7, at }),
+            Thing::Value(t) => value_member(alloc, around, name, t),
+            Thing::Subroutine {
+                callee,
+                object,
+                is_direct,
+                at,
+            } => {
+                let value = bare_subroutine(alloc, around, place, callee, object, is_direct, at);
+                member_of_value(alloc, around, name, value)
+            }
+            Thing::Method {
+                method,
+                object,
+                at: _,
+            } => {
+                let value = bare_method(alloc, around, place, method, object);
+                member_of_value(alloc, around, name, value)
+            }
+            Thing::ItsResult {
+                callee: _,
+                object: _,
+                variable,
+                at,
+            } => member_of_value(alloc, around, name, result_value(around, at, variable)),
+            Thing::Signal {
+                block,
+                place: number,
+                signal,
+                at,
+            } => {
+                let value = signal_read(alloc, around, block, number, signal, at);
+                member_of_value(alloc, around, name, value)
+            }
+        }
+    }
+}
