@@ -15,7 +15,7 @@ ghost use Rattle.sv_names.specs.Types as types;
 ghost use Rattle.sv_names.specs.Given.{Gives};
 
 use std::alloc::Global;
-use sv_elab_value::{bits_of, code_of, item, known_index, operand, paired, value_typed};
+use sv_elab_value::{bits_of, code_of, expr_of, item, known_index, operand, paired, value_typed};
 use sv_flat::{Context, Expr, ExprForm, is_in_context, operands_of};
 use sv_names::{Hoisted, Operands, Refusal, Ty, Typed, both, plain_vector};
 use sv_tree::{BinaryWord, UnaryWord};
