@@ -238,13 +238,14 @@ how_many (k ∷ ks) = suc (how_many ks)
 abbrev pub line_of : List ClassInfo → Path → List ClassInfo
 line_of ks p = line_from (how_many ks) ks (Some p)
 
+-- whether a class stands in a line
+abbrev pub in_line : Path → List ClassInfo → Bool
+in_line q [] = false
+in_line q (k ∷ ks) = same_path k.path q || in_line q ks
+
 -- whether a class is another one, or derived from it
 abbrev pub is_derived : List ClassInfo → Path → Path → Bool
-is_derived ks p q = any (line_of ks p)
-  where
-    any : List ClassInfo → Bool
-    any [] = false
-    any (k ∷ more) = same_path k.path q || any more
+is_derived ks p q = in_line q (line_of ks p)
 
 -- the rule that the last base of a line breaks
 abbrev pub broken_end : List ClassInfo → Option Fault
