@@ -1,1 +1,2 @@
 pub mod Concatenations
+pub mod Times

@@ -1,54 +1,29 @@
 // Constants, folded to literals of their values (IEEE 1800-2017, 11.2.1).
 ghost use Rattle.std.specs.Prelude.{◌≡◌, None, IfOk, IfErr};
-ghost use Rattle.sv_value.specs.Vector as vectors;
-ghost use Rattle.sv_value.specs.Operators.{integer as integer_of};
 ghost use Rattle.sv_flat.specs.Expr as flat;
 ghost use Rattle.sv_flat.specs.Eval as eval;
 ghost use Rattle.sv_names.specs.declared.refusal.Refusal.TheVariants.{Memory};
 ghost use Rattle.sv_names.specs.Values as values;
-ghost use Rattle.sv_elab_value.specs.Constants.{number_literal, text_literal};
+ghost use Rattle.sv_elab_value.specs.Constants.{number_literal, text_literal as text_literal_of};
 
-use crate::constants::value_alone;
+use crate::constants::{allocator_of, constant_value};
 use crate::parts::{code_of, expr_of};
 use std::alloc::Global;
+use sv_eval::{Stopped, text_in, vector_in};
 use sv_flat::{Expr, ExprForm};
 use sv_names::{Hoisted, Refusal, Ty, Typed};
-use sv_value::{Bits, Integer};
+use sv_value::{Bits, Sym, Text};
 
-/// Whether every symbol is 0 or 1.
-pub fn is_known(value: Bits) -> bool
-    ensures { result ≡ vectors.is_known value.symbols }
-{
-    let (_, unknown) = value.words();
-    unknown == 0
-}
-
-/// The number of a vector, in two's complement where it is signed; none where a symbol is x or z.
-pub fn known_index(value: Bits) -> Option<i128>
-    ensures { result ≡ eval.known_index value }
-{
-    if is_known(value) {
-        Some(integer(value))
-    } else {
-        None
-    }
-}
-
-/// The number of known symbols.
-fn integer(value: Bits) -> i128
-    ensures { result ≡ integer_of value }
-{
-    let number = Integer::of(value, value.signed());
-    let size = i128::from(number.size());
-    if number.is_negative() { -size } else { size }
-}
-
-/// The bits of a constant number.
+/// The bits of a constant number; x where it has no value.
 pub fn bits_of(e: &Expr) -> Result<Bits, Refusal>
     ensures ok { IfOk result (λ x. x ≡ values.vector_of (eval.value_of e.now values.nowhere)) }
     ensures err { IfErr result (λ e. e ≡ Memory) }
 {
-    value_alone(e)
+    match constant_value(allocator_of(e), e) {
+        Ok(value) => Ok(vector_in(&value)),
+        Err(Stopped::Fault(_)) => Ok(Bits::one_bit(Sym::X)),
+        Err(Stopped::Memory) => Err(Refusal::Memory),
+    }
 }
 
 /// A literal of these bits.
@@ -59,24 +34,37 @@ fn literal(alloc: Global, value: Bits) -> Result<Expr, Refusal>
     expr_of(alloc, ExprForm::Literal { value, fill: None })
 }
 
-/// A constant number as a literal.
-#[tactic(auto, using(crate::proofs::LiteralLaws::number_folded))]
+/// A constant number as a literal; one that has no value stays as it is.
 fn folded_number(alloc: Global, e: Expr) -> Result<Expr, Refusal>
     ensures ok { IfOk result (λ x. x ≡ number_literal (eval.value_of e values.nowhere) e) }
     ensures err { IfErr result (λ e. e ≡ Memory) }
 {
-    let value = value_alone(&e)?;
-    literal(alloc, value)
+    match constant_value(alloc, &e) {
+        Ok(value) => literal(alloc, vector_in(&value)),
+        Err(Stopped::Fault(_)) => Ok(e),
+        Err(Stopped::Memory) => Err(Refusal::Memory),
+    }
 }
 
-/// A constant string as a literal. Strings that are no literals are not written yet.
-fn folded_text(e: Expr) -> Result<Expr, Refusal>
-    ensures ok { IfOk result (λ x. x ≡ text_literal (eval.value_of e values.nowhere) e) }
+/// A string literal of these bytes.
+fn text_literal(alloc: Global, text: &[u8]) -> Result<Expr, Refusal>
+    ensures ok { IfOk result (λ e. e ≡ flat.Text text.now) }
     ensures err { IfErr result (λ e. e ≡ Memory) }
 {
-    match &*e.form {
-        ExprForm::Text { .. } => Ok(e),
-        _ => Err(Refusal::Memory),
+    let mut bytes = Text::new(alloc);
+    bytes.push_all(text)?;
+    expr_of(alloc, ExprForm::Text { bytes })
+}
+
+/// A constant string as a literal; one that has no value stays as it is.
+fn folded_text(alloc: Global, e: Expr) -> Result<Expr, Refusal>
+    ensures ok { IfOk result (λ x. x ≡ text_literal_of (eval.value_of e values.nowhere) e) }
+    ensures err { IfErr result (λ e. e ≡ Memory) }
+{
+    match constant_value(alloc, &e) {
+        Ok(value) => text_literal(alloc, text_in(&value)),
+        Err(Stopped::Fault(_)) => Ok(e),
+        Err(Stopped::Memory) => Err(Refusal::Memory),
     }
 }
 
@@ -88,7 +76,7 @@ fn literal_of(alloc: Global, ty: &Ty, e: Expr) -> Result<Expr, Refusal>
     match ty {
         Ty::Vector { .. } => folded_number(alloc, e),
         Ty::Enum { .. } => folded_number(alloc, e),
-        Ty::Text => folded_text(e),
+        Ty::Text => folded_text(alloc, e),
         _ => Ok(e),
     }
 }

@@ -1,5 +1,5 @@
 // Constant numbers, and values for targets (IEEE 1800-2017, 6.22, 10.8 and 11.2.1): E11 to E13, E16, E17, E42.
-ghost use Rattle.std.specs.Prelude.{◌≡◌, ◌<◌, ℤ, IfOk, IfErr};
+ghost use Rattle.std.specs.Prelude.{◌≡◌, ◌-◌, ◌^◌, ◌≤ℤ◌, pos, IfOk, IfErr, IfSome};
 ghost use Rattle.sv_flat.specs.Expr as flat;
 ghost use Rattle.sv_flat.specs.Eval as eval;
 ghost use Rattle.sv_names.specs.declared.checked.Checked.{Checked as checked};
@@ -10,9 +10,10 @@ ghost use Rattle.sv_names.specs.Hoisted as hoisted;
 ghost use Rattle.sv_names.specs.Values as values;
 ghost use Rattle.sv_names.specs.Given.{Gives, GivesAs};
 
-use crate::folding::{alone, bits_of, folded, known_index};
+use crate::folding::{alone, bits_of, folded};
 use crate::parts::{code_of, expr_of};
 use std::alloc::Global;
+use sv_eval::known_index;
 use sv_flat::{Expr, ExprForm};
 use sv_names::{Hoisted, Refusal, Ty, Typed};
 use sv_value::{Place, WIDEST};
@@ -32,7 +33,9 @@ pub fn constant(at: Place, t: Typed) -> Result<Typed, Refusal>
 
 /// E12: a known number.
 fn known_or(rule: u8, at: Place, number: Option<i128>) -> Result<i128, Refusal>
-    ensures { Gives result (values.known_or rule at number) }
+    requires { IfSome number (λ n. n ≤ℤ pos (2 ^ 64 - 1)) }
+    ensures gives { Gives result (values.known_or rule at number) }
+    ensures small { IfOk result (λ n. n ≤ℤ pos (2 ^ 64 - 1)) }
 {
     match number {
         None => Err(Refusal::Rule { rule, at }),
@@ -42,15 +45,17 @@ fn known_or(rule: u8, at: Place, number: Option<i128>) -> Result<i128, Refusal>
 
 /// E12: the known number of a constant.
 fn number_of(at: Place, t: &Typed) -> Result<i128, Refusal>
-    ensures { Gives result (values.known_or 12 at (eval.known_index (values.constant_vector t.now))) }
+    ensures gives { Gives result (values.known_or 12 at (eval.known_index (values.constant_vector t.now))) }
+    ensures small { IfOk result (λ n. n ≤ℤ pos (2 ^ 64 - 1)) }
 {
     let value = bits_of(&t.code.value)?;
     known_or(12, at, known_index(value))
 }
 
-/// E11, E15, E12: an expression that must be a constant number.
+/// E11, E15, E12: an expression that must be a constant number, which has 64 bits.
 pub fn constant_number(at: Place, t: &Typed) -> Result<i128, Refusal>
-    ensures { Gives result (values.constant_number at t.now) }
+    ensures gives { Gives result (values.constant_number at t.now) }
+    ensures small { IfOk result (λ n. n ≤ℤ pos (2 ^ 64 - 1)) }
 {
     if !t.is_constant {
         return Err(Refusal::Rule { rule: 11, at });
@@ -63,6 +68,7 @@ pub fn constant_number(at: Place, t: &Typed) -> Result<i128, Refusal>
 
 /// E12: a number of at least 1.
 fn count_from(at: Place, number: i128) -> Result<u64, Refusal>
+    requires { number ≤ℤ pos (2 ^ 64 - 1) }
     ensures { Gives result (values.count_from at number) }
 {
     if number < 1 {
@@ -70,7 +76,7 @@ fn count_from(at: Place, number: i128) -> Result<u64, Refusal>
     }
     match u64::try_from(number) {
         Ok(count) => Ok(count),
-        Err(_) => Err(Refusal::Memory),
+        Err(_) => unreachable!(),
     }
 }
 

@@ -1,6 +1,6 @@
 use Rattle.std.proofs.Common.{sym}
 use Rattle.sv_value.proofs.Words.{is_known-unknown}
-use Rattle.sv_elab_value.proofs.folding.is_known.Goals as goal
+use Rattle.sv_eval.proofs.vectors.is_known.Goals as goal
 
 pub returns : goal.returns
 returns c = sym (is_known-unknown c.words-unknown.ensures)
