@@ -16,7 +16,6 @@ ghost use Rattle.sv_names.specs.Selects as selects;
 ghost use Rattle.sv_names.specs.Given.{Gives};
 ghost use Rattle.sv_elab_select.specs.Parts as parts;
 
-use crate::copies::copy_expr;
 use crate::rules::{guarded, rule};
 use std::alloc::Global;
 use std::mem;
@@ -24,7 +23,7 @@ use sv_elab_value::{
     alone, constant_number, counted, expr_of, index, not_too_wide, paired, pure, value_typed,
 };
 use sv_flat::{Bounds, Expr, ExprForm, Part};
-use sv_names::{Hoisted, Refusal, Target, Ty, Typed, both, plain_vector};
+use sv_names::{Hoisted, Refusal, Target, Ty, Typed, both, copy_expr, plain_vector};
 use sv_tree::PartWord;
 use sv_value::{Bits, Place, Seq, Sym, WIDEST};
 

@@ -3,7 +3,7 @@
 //! - `bits` has selects of bits and parts, `items` those of the items of containers and the elements of fixed arrays; `selects` has
 //!   both by the type of what is selected of.
 //! - `targets` judges what may be written; `written` has targets in the flat design, and how they are read; `behind` what stands behind.
-//! - `rules` has rules beside values; `copies` has expressions and targets once more, since what is selected stands in the value and in the target.
+//! - `rules` has rules beside values.
 //!
 //! Each form is a function of what its parts give, each of which may break a rule; of two broken rules the earlier one is told. Each
 //! function answers what its definition in `sv_names` gives, or the first rule that is broken, or that memory ran out.
@@ -11,7 +11,6 @@
 
 mod behind;
 mod bits;
-mod copies;
 mod items;
 mod rules;
 mod selects;
@@ -19,7 +18,6 @@ mod targets;
 mod written;
 
 pub use behind::behind_target;
-pub use copies::{copy_base, copy_expr, copy_part};
 pub use selects::{part_select_of, select_of};
 pub use targets::{Spot, concatenated, may_be_written, may_begin, selects_stand, takes};
 pub use written::{lvalue, lvalues, read_lvalues, read_of, type_of_target};

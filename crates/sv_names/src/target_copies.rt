@@ -136,7 +136,7 @@ fn copy_begin(alloc: Global, begins: &Begin) -> Result<Begin, NoMemory>
 }
 
 /// The same reference, where there is one, in memory of its own.
-fn copy_through(alloc: Global, through: &Option<Expr>) -> Result<Option<Expr>, NoMemory>
+pub fn copy_through(alloc: Global, through: &Option<Expr>) -> Result<Option<Expr>, NoMemory>
     ensures { IfOk result (λ o. o ≡ through.now) }
 {
     match through {
