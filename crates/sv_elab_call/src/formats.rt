@@ -24,9 +24,7 @@ fn width_of(digits: &[u8]) -> Option<Pad>
     match digits {
         [a] => Some(Pad::Wide(digit_of(*a))),
         [a, b] => Some(Pad::Wide(10 * digit_of(*a) + digit_of(*b))),
-        [a, b, c] => Some(Pad::Wide(
-            10 * (10 * digit_of(*a) + digit_of(*b)) + digit_of(*c),
-        )),
+        [a, b, c] => Some(Pad::Wide(10 * (10 * digit_of(*a) + digit_of(*b)) + digit_of(*c))),
         _ => None,
     }
 }

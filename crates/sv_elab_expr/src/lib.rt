@@ -6,8 +6,11 @@
 //! written yet answers want of memory too.
 #![tactic(auto)]
 
+mod args;
+mod behind;
 mod conversions;
+mod spots;
 mod table;
 
 pub use conversions::cast;
-pub use table::{expr, place_of};
+pub use table::{args, expr, place_of, target_in};

@@ -5,14 +5,13 @@ use Rattle.sv_names.specs.declared.checked.Checked.{Checked}
 use Rattle.sv_names.specs.declared.checked.Checked.TheVariants.{Good, Broken}
 use Rattle.sv_elab_name.specs.declared.thing.Thing as code
 use Rattle.sv_elab_name.specs.declared.thing.Thing.TheVariants as thing
-use Rattle.sv_elab_name.specs.Methods.{method_in}
 use Rattle.sv_names.specs.Things.{Thing, A_value, A_subroutine, A_method, Its_result, A_block, The_signal, A_type}
 
 -- what a name with its members and calls stands for
 abbrev pub thing_in : code.Thing → Thing
 thing_in (thing.Value t) = A_value t
 thing_in (thing.Subroutine c o direct at) = A_subroutine c.now o direct at
-thing_in (thing.Method m o at) = A_method (method_in m) o at
+thing_in (thing.Method m o at) = A_method m o at
 thing_in (thing.ItsResult c o v at) = Its_result c.now o v at
 thing_in (thing.Block p ss at) = A_block p.now ss.now at
 thing_in (thing.Signal b i s at) = The_signal b.now i s.now at

@@ -21,7 +21,7 @@ mod value;
 mod variables;
 
 pub use members::{base_of, class_named, member_named, member_thing, object_of};
-pub use methods::{Action, Method, MethodResult, method_of};
+pub use methods::method_of;
 pub use names::{named_thing, subroutine_thing};
 pub use object::{at_hand, this_typed};
 pub use protection::{is_within, may_be_named};

@@ -8,9 +8,9 @@ ghost use Rattle.sv_elab_name.specs.Things.{thing_in};
 
 use crate::suffixes::member_of_value;
 use crate::value::{bare_method, bare_subroutine, result_value};
-use crate::{Method, signal_named, signal_read, value_member};
+use crate::{signal_named, signal_read, value_member};
 use std::alloc::Global;
-use sv_names::{Around, Callee, Checked, Refusal, SignalInfo, Ty, Typed};
+use sv_names::{Around, Callee, Checked, Method, Refusal, SignalInfo, Ty, Typed};
 use sv_tree::Name;
 use sv_value::{Place, Text};
 

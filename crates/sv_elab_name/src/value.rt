@@ -12,12 +12,11 @@ ghost use Rattle.sv_names.specs.Named.{Around as around_of};
 ghost use Rattle.sv_names.specs.Things as things;
 ghost use Rattle.sv_names.specs.Things.{Thing as thing_of};
 ghost use Rattle.sv_names.specs.Views.{around_in};
-ghost use Rattle.sv_elab_name.specs.Methods.{method_in};
 ghost use Rattle.sv_elab_name.specs.Things.{thing_in};
 
-use crate::{Method, Thing, lasts, object_typed};
+use crate::{Thing, lasts, object_typed};
 use std::alloc::Global;
-use sv_names::{Around, Begin, Callee, Checked, Refusal, SignalInfo, Ty, Typed, copy_path};
+use sv_names::{Around, Begin, Callee, Checked, Method, Refusal, SignalInfo, Ty, Typed, copy_path};
 use sv_value::{Place, Text};
 
 // ---- signals
@@ -120,7 +119,7 @@ pub(crate) fn bare_method(
     _method: Method,
     _object: Typed,
 ) -> Result<Typed, Refusal>
-    ensures { Gives result (things.bare_call (around_in _around.now) _place (calls.method_called (around_in _around.now) _place true (method_in _method) _object [])) }
+    ensures { Gives result (things.bare_call (around_in _around.now) _place (calls.method_called (around_in _around.now) _place true _method _object [])) }
 {
     Err(Refusal::Memory)
 }

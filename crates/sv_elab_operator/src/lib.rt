@@ -18,4 +18,4 @@ pub use concatenations::{join, repeat};
 pub use literals::{null, number};
 pub use operators::{binary, binary_typed, comparison, context_of, kind_of, numbers, power, unary};
 pub use placed::parts;
-pub use strings::string;
+pub use strings::{string, text_of};

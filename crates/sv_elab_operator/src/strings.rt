@@ -65,11 +65,19 @@ fn unescaped(alloc: Global, text: &[u8]) -> Result<Seq<u8>, Refusal>
     Ok(bytes)
 }
 
+/// The bytes of a string literal.
+pub fn text_of(alloc: Global, text: &[u8]) -> Result<Seq<u8>, Refusal>
+    ensures ok { IfOk result (λ t. t ≡ literals.text_of text.now) }
+    ensures err { IfErr result (λ e. e ≡ Memory) }
+{
+    unescaped(alloc, unquoted(text))
+}
+
 /// A string literal as it is written.
 pub fn string(alloc: Global, at: Place, text: &[u8]) -> Result<Typed, Refusal>
     ensures { Gives result (Good (values.value_typed ty.Text at true (hoisted.pure (flat.Text (literals.text_of text.now))))) }
 {
-    let bytes = unescaped(alloc, unquoted(text))?;
+    let bytes = text_of(alloc, text)?;
     let value = expr_of(alloc, ExprForm::Text { bytes })?;
     Ok(value_typed(alloc, Ty::Text, at, true, pure(alloc, value)))
 }

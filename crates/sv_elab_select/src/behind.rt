@@ -19,7 +19,7 @@ fn hidden_of(t: &Typed) -> u32
 }
 
 /// How many hidden variables the parts of a target take; more than every limit are not told from others.
-fn hidden_of_spots(spots: &[Spot]) -> u32
+pub fn hidden_of_spots(spots: &[Spot]) -> u32
     ensures { result ≡ min (targets.hidden_of_spots spots.now) (2 ^ 32 - 1) }
 {
     match spots {

@@ -297,6 +297,16 @@ abbrev pub taken : (is_output : Bool) → (Unit {0} → Option (Checked (List Sp
 taken true target value = as_output (target tt) value
 taken false target value = Value (value tt)
 
+-- whether the first argument is taken as a target; those behind the list are not
+abbrev pub first_output : List Bool → Bool
+first_output [] = false
+first_output (o ∷ os) = o
+
+-- the same of the arguments behind it
+abbrev pub more_outputs : List Bool → List Bool
+more_outputs [] = []
+more_outputs (o ∷ os) = os
+
 -- a concatenation as a target
 abbrev pub as_concatenation : Place → Option (Checked (List Spot)) → Option (Checked (List Spot))
 as_concatenation at None = None
@@ -331,11 +341,9 @@ abbrev mutual
   -- the arguments of a call, each behind those before it; `os` tells from the first on which are taken as targets
   pub args : Around → (os : List Bool) → tree.Exprs → List Arg
   args ar os tree.NoExpr = []
-  args ar [] (tree.AndExpr e es) =
-      args_in_turn (place_of e) (literal_text e) (Value (expr ar e)) (λ n. args (behind n ar) [] es)
-  args ar (o ∷ os) (tree.AndExpr e es) =
-      args_in_turn (place_of e) (literal_text e) (taken o (λ _. target_in By_statement ar e) (λ _. expr ar e))
-      (λ n. args (behind n ar) os es)
+  args ar os (tree.AndExpr e es) =
+      args_in_turn (place_of e) (literal_text e) (taken (first_output os) (λ _. target_in By_statement ar e) (λ _. expr ar e))
+      (λ n. args (behind n ar) (more_outputs os) es)
 
   -- the same, where brackets are written
   pub actual_args : Around → (os : List Bool) → tree.Actuals → List Arg
