@@ -1,3 +1,4 @@
 pub mod Escapes
 pub mod InRow
 pub mod Judged
+pub mod TimeLaws

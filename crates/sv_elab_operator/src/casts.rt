@@ -1,5 +1,5 @@
 // Casts of numbers (IEEE 1800-2017, 6.24.1): E13, E16, E42.
-ghost use Rattle.std.specs.Prelude.{◌≡◌, false, if◌then◌else◌};
+ghost use Rattle.std.specs.Prelude.{◌≡◌, ◌≤◌, false, if◌then◌else◌};
 ghost use Rattle.sv_names.specs.declared.checked.Checked.{Checked as checked};
 ghost use Rattle.sv_names.specs.declared.checked.Checked.TheVariants.{Good};
 ghost use Rattle.sv_names.specs.declared.typed.Typed.{Typed as typed};
@@ -114,19 +114,18 @@ fn sized_item(
     width: u64,
     e: Typed,
 ) -> Result<Typed, Refusal>
+    requires { width ≤ 64 }
     ensures { Gives result (values.one_item e ▷ (λ x. if types.is_integral x.ty then Good (operators.sized_as place width x) else broken_at 16 at)) }
 {
     let t = one_item(e)?;
     if !t.ty.is_integral() {
         return Err(Refusal::Rule { rule: 16, at });
     }
-    match u32::try_from(width) {
-        Ok(width) => sized_as(alloc, place, width, t),
-        Err(_) => Err(Refusal::Memory),
-    }
+    sized_as(alloc, place, width as u32, t)
 }
 
 /// E13, E16, E42: a cast to a width.
+#[tactic(auto, using(crate::proofs::Judged::narrow))]
 pub fn sized(alloc: Global, place: Place, at: Place, width: u64, t: Typed) -> Result<Typed, Refusal>
     ensures { Gives result (operators.sized place at width t) }
 {

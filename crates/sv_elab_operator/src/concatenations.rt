@@ -232,24 +232,32 @@ fn repeated(alloc: Global, count: u32, a: Typed) -> Result<Typed, Refusal>
 }
 
 /// E13: a replication has no more than 64 bits.
+#[tactic(auto, using(crate::proofs::Judged::far_too_wide))]
 fn repeat_stands(at: Place, count: u64, ty: &Ty) -> Result<(), Refusal>
     ensures { Gives result (values.not_too_wide at (count * types.width_of_type ty.now)) }
 {
     match count.checked_mul(u64::from(ty.width())) {
         Some(width) => not_too_wide(at, width),
-        None => Err(Refusal::Memory),
+        None => Err(Refusal::Rule { rule: 13, at }),
     }
 }
 
-/// A replication that is judged. Counts above 2^32 - 1 are not written yet.
+/// A replication that is not too wide. Memory is wanting for counts above 2^32 - 1, which E13 leaves to strings alone.
+fn repeat_counted(alloc: Global, count: u64, a: Typed) -> Result<Typed, Refusal>
+    ensures { Gives result (Good (operators.repeated count a)) }
+{
+    match u32::try_from(count) {
+        Ok(count) => repeated(alloc, count, a),
+        Err(_) => Err(Refusal::Memory),
+    }
+}
+
+/// A replication that is judged.
 fn repeat_judged(alloc: Global, at: Place, count: u64, a: Typed) -> Result<Typed, Refusal>
     ensures { Gives result (values.not_too_wide at (count * types.width_of_type a.ty) ▷ (λ _. Good (operators.repeated count a))) }
 {
-    let Ok(times) = u32::try_from(count) else {
-        return Err(Refusal::Memory);
-    };
     match repeat_stands(at, count, &a.ty) {
-        Ok(()) => repeated(alloc, times, a),
+        Ok(()) => repeat_counted(alloc, count, a),
         Err(e) => Err(e),
     }
 }

@@ -1,4 +1,4 @@
-//! Operators, casts, concatenations and literals on typed parts (IEEE 1800-2017, 5.7, 5.9, 6.24 and 11.4).
+//! Operators, casts, concatenations and literals on typed parts (IEEE 1800-2017, 5.7 to 5.9, 6.24 and 11.4).
 //!
 //! Each form is a function of what its parts give, each of which may break a rule; of two broken rules the earlier one is told. Each
 //! function answers what its definition in `sv_names` gives, or the first rule that is broken, or that memory ran out.
@@ -11,6 +11,7 @@ mod literals;
 mod operators;
 mod placed;
 mod strings;
+mod times;
 
 pub use casts::{atom_type, cast_number, has_four_states, number_cast, sized};
 pub use choices::choose;
@@ -19,3 +20,4 @@ pub use literals::{null, number};
 pub use operators::{binary, binary_typed, comparison, context_of, kind_of, numbers, power, unary};
 pub use placed::parts;
 pub use strings::{string, text_of};
+pub use times::time;

@@ -1,5 +1,5 @@
 // Time literals (IEEE 1800-2017, 3.14 and 5.8): E52.
-ghost use Rattle.std.specs.Prelude.{◌≡◌, ℕ, ◌-◌, ◌*◌, ◌+◌, ◌^◌, ◌≤◌, [], ◌∷◌, min, IfOk, IfErr};
+ghost use Rattle.std.specs.Prelude.{◌≡◌, ℕ, ◌-◌, ◌*◌, ◌+◌, ◌^◌, ◌≤◌, [], ◌∷◌, false, length, min, IfOk, IfErr};
 ghost use Rattle.std.specs.List.{prefix_len};
 ghost use Rattle.sv_value.specs.Vector.{vector, symbols_of};
 ghost use Rattle.sv_names.specs.Checked.{given};
@@ -27,7 +27,8 @@ fn is_digit(c: u8) -> bool
 
 /// How many digits a text begins with.
 fn digit_count(text: &[u8]) -> usize
-    ensures { result ≡ prefix_len literals.is_digit text.now }
+    ensures value { result ≡ prefix_len literals.is_digit text.now }
+    ensures within { result ≤ length text.now }
 {
     text.iter().take_while(|c| is_digit(**c)).count()
 }
@@ -106,7 +107,7 @@ fn few(ticks: u128) -> Option<u64>
 }
 
 /// A time in ticks of which its unit has a power of ten.
-#[tactic(auto, using(crate::proofs::TimeLaws::kept_whole, crate::proofs::TimeLaws::too_many, crate::proofs::TimeLaws::product_too_many))]
+#[tactic(auto, using(crate::proofs::TimeLaws::kept_whole, crate::proofs::TimeLaws::too_many, crate::proofs::TimeLaws::none_of_many))]
 fn in_parts(number: u128, k: u32) -> Option<u64>
     requires { k ≤ 17 }
     ensures { (d : ℕ) → number ≡ min d TOO_MANY → result ≡ times.few (d * 10 ^ k) }
@@ -142,7 +143,8 @@ fn in_wholes(number: u128, k: u32) -> Option<u64>
 #[tactic(auto, using(crate::proofs::TimeLaws::finer, crate::proofs::TimeLaws::coarser))]
 fn ticks_of(number: u128, power: u32, precision: u32) -> Result<Option<u64>, Refusal>
     requires { power ≤ 15 }
-    ensures { IfOk result (λ t. (d : ℕ) → number ≡ min d TOO_MANY → t ≡ times.whole_ticks (d * 10 ^ power) precision) }
+    ensures ok { IfOk result (λ t. (d : ℕ) → number ≡ min d TOO_MANY → t ≡ times.whole_ticks (d * 10 ^ power) precision) }
+    ensures err { IfErr result (λ e. e ≡ Memory) }
 {
     if 17 < precision {
         return Err(Refusal::Memory);
@@ -166,7 +168,7 @@ fn whole_ticks(scale: &Scale, text: &[u8]) -> Result<Option<u64>, Refusal>
 }
 
 /// E52: a time literal is a whole number of ticks, fewer than 2^63.
-#[tactic(auto, using(crate::proofs::TimeLaws::told))]
+#[tactic(auto, using(crate::proofs::TimeLaws::told_whole, crate::proofs::TimeLaws::told_none))]
 fn ticks_in(scale: &Scale, at: Place, text: &[u8]) -> Result<u64, Refusal>
     ensures { Gives result (operators.ticks_in scale.now at text.now) }
 {
@@ -198,7 +200,13 @@ fn time_typed(alloc: Global, scale: &Scale, at: Place, ticks: u64) -> Result<Typ
 {
     let value = units_of(scale, ticks)?;
     let code = expr_of(alloc, ExprForm::Literal { value, fill: None })?;
-    Ok(value_typed(alloc, selectable(64, false, true), at, true, pure(alloc, code)))
+    Ok(value_typed(
+        alloc,
+        selectable(64, false, true),
+        at,
+        true,
+        pure(alloc, code),
+    ))
 }
 
 /// E52: a time literal.

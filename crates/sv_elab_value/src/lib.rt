@@ -21,8 +21,8 @@ pub use fits::{assigned, common_reference, exactly, fits_class, item_assigned};
 pub use folding::{alone, bits_of, folded};
 pub use operands::{index, item, number_index, number_operand, one_item, operand};
 pub use parts::{code_of, converted, expr_of, paired, pure, value_typed};
+pub use sv_eval::{is_known, known_index};
 pub use values::{
     assigned_if, constant, constant_count, constant_number, container_assigned, counted,
     not_too_wide, number_assigned, widened,
 };
-pub use sv_eval::{is_known, known_index};
