@@ -21,13 +21,15 @@ use Rattle.sv_names.specs.declared.around.Dollar.TheVariants.{NoDollar, UnknownD
 use Rattle.sv_names.specs.declared.checked.Fault.{Fault}
 use Rattle.sv_names.specs.declared.checked.Checked.{Checked}
 use Rattle.sv_names.specs.declared.checked.Checked.TheVariants.{Good, Broken}
+use Rattle.sv_names.specs.declared.system.System.{System}
+use Rattle.sv_names.specs.declared.system.System.TheVariants as system
 use Rattle.sv_names.specs.declared.ty.Ty.{Ty}
 use Rattle.sv_names.specs.declared.ty.Ty.TheVariants.{Vector as Bit_vector, Text, Event, Class, Semaphore, Mailbox, Null, Nothing}
 use Rattle.sv_names.specs.declared.typed.Typed.{Typed}
 use Rattle.sv_names.specs.declared.named.Named.{Named}
 use Rattle.sv_names.specs.declared.named.Named.TheVariants.{TypeName, ClassName}
 use Rattle.sv_names.specs.Literals.{text_of}
-use Rattle.sv_names.specs.Checked.{both, ◌▷◌, given, broken_at, ◌where_also◌, only, also_broken}
+use Rattle.sv_names.specs.Checked.{both, ◌▷◌, given, broken_at, fine, ◌where_also◌, only, also_broken}
 use Rattle.sv_names.specs.Types.{is_integral, is_container, selectable, plain_vector, int_type, width_of_type, is_four_state, integral, same_bytes, whole}
 use Rattle.sv_names.specs.Hoisted.{pure, mapped}
 use Rattle.sv_names.specs.Named.{Around, meaning, found, names_type, told_at, in_turn, behind, hidden_in}
@@ -42,35 +44,17 @@ use Rattle.sv_names.specs.Things.{Thing, A_value, A_subroutine, A_method, Its_re
 
 -- ---- system names
 
--- the system names
-pub data System : Type 0 where
-  Display : System
-  Write : System
-  Strobe : System
-  Monitor : System
-  Finish : System
-  Exit : System
-  Dump : System
-  Time : System
-  Cast : System
-  Bits : System
-  Clog2 : System
-  Signed : System
-  Unsigned : System
-  Sformatf : System
-  Unknown : System
-
 -- each with what it is
 abbrev pub system_names : List (List ℕ × System)
 system_names =
-    (codes "$display", Display) ∷ (codes "$write", Write) ∷ (codes "$strobe", Strobe) ∷ (codes "$monitor", Monitor)
-    ∷ (codes "$finish", Finish) ∷ (codes "$exit", Exit) ∷ (codes "$dumpfile", Dump) ∷ (codes "$dumpvars", Dump)
-    ∷ (codes "$time", Time) ∷ (codes "$cast", Cast) ∷ (codes "$bits", Bits) ∷ (codes "$clog2", Clog2)
-    ∷ (codes "$signed", Signed) ∷ (codes "$unsigned", Unsigned) ∷ (codes "$sformatf", Sformatf) ∷ []
+    (codes "$display", system.Display) ∷ (codes "$write", system.Write) ∷ (codes "$strobe", system.Strobe) ∷ (codes "$monitor", system.Monitor)
+    ∷ (codes "$finish", system.Finish) ∷ (codes "$exit", system.Exit) ∷ (codes "$dumpfile", system.Dump) ∷ (codes "$dumpvars", system.Dump)
+    ∷ (codes "$time", system.Time) ∷ (codes "$cast", system.Cast) ∷ (codes "$bits", system.Bits) ∷ (codes "$clog2", system.Clog2)
+    ∷ (codes "$signed", system.Signed) ∷ (codes "$unsigned", system.Unsigned) ∷ (codes "$sformatf", system.Sformatf) ∷ []
 
 -- what a name is in a table
 abbrev pub system_in : List ℕ → List (List ℕ × System) → System
-system_in x [] = Unknown
+system_in x [] = system.Unknown
 system_in x (e ∷ es) = if same_bytes x e.0 then e.1 else system_in x es
 
 -- what a system name is
@@ -78,9 +62,13 @@ abbrev pub system_of : Name → System
 system_of n = system_in n.text system_names
 
 -- E31: exactly one argument
-abbrev pub of_one : Place → List Arg → (Arg → Checked Typed) → Checked Typed
-of_one at (a ∷ []) go = go a
-of_one at as' go = broken_at 31 at where_also values_stand as'
+abbrev pub one_of : Place → List Arg → Checked Arg
+one_of at (a ∷ []) = Good a
+one_of at as' = broken_at 31 at where_also values_stand as'
+
+-- the number that it is
+abbrev pub number_of_one : Place → List Arg → Checked Typed
+number_of_one at as' = one_of at as' ▷ (λ a. value_of_arg a ▷ number_operand a.at)
 
 -- a number of bits, of type int
 abbrev pub bits_literal : ℕ → flat.Expr
@@ -95,10 +83,8 @@ has_calls t = some t.code.hidden
     some (x ∷ xs) = true
 
 -- `$bits` of an expression is constant where no call stands in it
-abbrev pub bits_of_value : Place → Arg → Checked Typed
-bits_of_value at a =
-    value_of_arg a ▷ number_operand a.at
-    ▷ (λ t. Good (value_typed int_type at (not (has_calls t)) (mapped (λ e. bits_literal (width_of_type t.ty)) t.code)))
+abbrev pub bits_of_value : Place → Typed → Typed
+bits_of_value at t = value_typed int_type at (not (has_calls t)) (mapped (λ e. bits_literal (width_of_type t.ty)) t.code)
 
 -- E15: `$bits` of a type, which is integral
 abbrev pub bits_of_type : Place → Place → Ty → Checked Typed
@@ -118,11 +104,8 @@ type_in ar e = None
 
 -- `$bits` of a type or of an expression (20.6.2)
 abbrev pub bits_of : Place → Option (Checked Ty) → List Arg → Checked Typed
-bits_of at t as' = of_one at as' (λ a. of_type a t)
-  where
-    of_type : Arg → Option (Checked Ty) → Checked Typed
-    of_type a None = bits_of_value at a
-    of_type a (Some c) = c ▷ bits_of_type at a.at
+bits_of at None as' = given (bits_of_value at) (number_of_one at as')
+bits_of at (Some c) as' = one_of at as' ▷ (λ a. c ▷ bits_of_type at a.at)
 
 -- `$signed` and `$unsigned` change no bit (11.7)
 abbrev pub signed_as : Place → Bool → Typed → Typed
@@ -135,9 +118,9 @@ abbrev pub logarithm : Place → Typed → Typed
 logarithm at t = value_typed (selectable 32 true true) at t.is_constant (mapped flat.Log2 t.code)
 
 -- E31: nothing between the brackets
-abbrev pub no_argument : Place → List Arg → Typed → Checked Typed
-no_argument at [] t = Good t
-no_argument at (a ∷ as') t = broken_at 31 at where_also values_stand (a ∷ as')
+abbrev pub none_of : Place → List Arg → Checked (Unit {0})
+none_of at [] = fine
+none_of at (a ∷ as') = broken_at 31 at where_also values_stand (a ∷ as')
 
 -- `$time` (20.3.1)
 abbrev pub time_now : Place → Typed
@@ -145,19 +128,19 @@ time_now at = value_typed (selectable 64 false true) at false (pure (flat.Time a
 
 -- E32: a system task is no value; E55
 abbrev pub system_value : Around → Place → Option (Checked Ty) → List Arg → System → Checked Typed
-system_value ar at t as' Time = no_argument at as' (time_now at)
-system_value ar at t as' Bits = bits_of at t as'
-system_value ar at t as' Clog2 = of_one at as' (λ a. given (logarithm at) (value_of_arg a ▷ number_operand a.at))
-system_value ar at t as' Signed = of_one at as' (λ a. given (signed_as at true) (value_of_arg a ▷ number_operand a.at))
-system_value ar at t as' Unsigned = of_one at as' (λ a. given (signed_as at false) (value_of_arg a ▷ number_operand a.at))
-system_value ar at t as' Sformatf = sformatf at as'
-system_value ar at t as' Cast = given (as_value ar at) (cast_called ar true at as')
-system_value ar at t as' Unknown = broken_at 55 at where_also values_stand as'
+system_value ar at t as' system.Time = none_of at as' ▷ (λ _. Good (time_now at))
+system_value ar at t as' system.Bits = bits_of at t as'
+system_value ar at t as' system.Clog2 = given (logarithm at) (number_of_one at as')
+system_value ar at t as' system.Signed = given (signed_as at true) (number_of_one at as')
+system_value ar at t as' system.Unsigned = given (signed_as at false) (number_of_one at as')
+system_value ar at t as' system.Sformatf = sformatf at as'
+system_value ar at t as' system.Cast = given (as_value ar at) (cast_called ar true at as')
+system_value ar at t as' system.Unknown = broken_at 55 at where_also values_stand as'
 system_value ar at t as' task = broken_at 32 at
 
 -- `$cast` of two arguments takes the first one as a target
 abbrev pub outputs_of_system : System → tree.Actuals → List Bool
-outputs_of_system Cast (tree.Written (tree.AndExpr a (tree.AndExpr b tree.NoExpr))) = true ∷ []
+outputs_of_system system.Cast (tree.Written (tree.AndExpr a (tree.AndExpr b tree.NoExpr))) = true ∷ []
 outputs_of_system s a = []
 
 -- the type that the first argument names

@@ -32,7 +32,9 @@ use Rattle.sv_names.specs.declared.method.Action.{Action}
 use Rattle.sv_names.specs.declared.method.Action.TheVariants as action
 use Rattle.sv_names.specs.Calls.{is_output}
 use Rattle.sv_names.specs.Things.{Thing, A_subroutine, A_method, Its_result, root_thing, dollar_in}
-use Rattle.sv_names.specs.Expressions.{things, target, target_in, before_select, as_expr, with_dollar, System, Cast, system_of}
+use Rattle.sv_names.specs.declared.system.System.{System}
+use Rattle.sv_names.specs.declared.system.System.TheVariants as system
+use Rattle.sv_names.specs.Expressions.{things, target, target_in, before_select, as_expr, with_dollar, system_of}
 use Rattle.sv_names.specs.Blocks.{inner_scope, inside, first_name, after_scopes, scopes_made}
 use Rattle.sv_names.specs.Statements.{block_entries, for_entries, foreach_entries, walked_array, automatic_loop}
 use Rattle.sv_names.specs.Subroutines.{constructor_path}
@@ -136,7 +138,7 @@ bare_touches ar th = call_touches ar th tree.NoExpr
 
 -- `$cast` writes its first argument
 abbrev pub cast_touches : Around → System → tree.Actuals → List Touch
-cast_touches ar Cast (tree.Written es) = first_target ar es
+cast_touches ar system.Cast (tree.Written es) = first_target ar es
 cast_touches ar s a = []
 
 abbrev mutual
