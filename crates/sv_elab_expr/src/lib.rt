@@ -10,7 +10,11 @@ mod args;
 mod behind;
 mod conversions;
 mod spots;
+mod steps;
+mod system;
 mod table;
+mod words;
 
 pub use conversions::cast;
+pub use system::{system_of, system_value};
 pub use table::{args, expr, place_of, target_in};

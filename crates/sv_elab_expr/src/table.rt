@@ -6,20 +6,29 @@ ghost use Rattle.sv_names.specs.declared.argument.Taken.TheVariants as taken;
 ghost use Rattle.sv_names.specs.declared.typed.How.TheVariants as how;
 ghost use Rattle.sv_names.specs.declared.refusal.Refusal.TheVariants.{Memory};
 ghost use Rattle.sv_names.specs.Arguments as arguments;
+ghost use Rattle.sv_names.specs.Checked.{◌▷◌, given};
 ghost use Rattle.sv_names.specs.Operators as operators;
 ghost use Rattle.sv_names.specs.Expressions as expressions;
+ghost use Rattle.sv_names.specs.Things as things;
 ghost use Rattle.sv_names.specs.Views.{around_in};
 ghost use Rattle.sv_names.specs.Given.{Gives};
+ghost use Rattle.sv_elab_name.specs.Things.{thing_in};
 
 use crate::args::{first_output, literal_text, more_outputs};
 use crate::behind::{after, behind_arg, behind_spots};
 use crate::conversions::cast;
 use crate::spots::as_concatenation;
+use crate::steps::{behind_object, call_step, fault_of, in_index, part_step, select_step};
+use crate::system::{system_of, system_value};
+use crate::words::{dollar, first_type, no_constructor, outputs_of_system};
 use std::alloc::Global;
-use sv_elab_operator::{binary, choose, join, null, number, parts, repeat, string, unary};
+use sv_elab_name::{
+    Thing, dollar_behind, judged_thing, member_step, outputs_behind, root_thing, value_step,
+};
+use sv_elab_operator::{binary, choose, join, null, number, parts, repeat, string, time, unary};
 use sv_elab_value::counted;
-use sv_names::{Arg, Around, Checked, How, Refusal, Taken, Typed, judged};
-use sv_tree::{BinaryWord, CastType, Expr, Root};
+use sv_names::{Arg, Around, Checked, How, Refusal, Taken, Typed, answer, judged};
+use sv_tree::{Actuals, BinaryWord, CastType, Expr, Name, PartWord, Root, Suffix};
 use sv_value::{Place, Seq};
 
 /// The place of the first token of a root.
@@ -112,8 +121,13 @@ pub fn expr(alloc: Global, e: &Expr, around: &Around) -> Result<Typed, Refusal>
 {
     match e {
         Expr::Number(at, text) => number(alloc, *at, text.bytes()),
+        Expr::Time(at, text) => time(alloc, &around.scale, *at, text.bytes()),
         Expr::Text(at, text) => string(alloc, *at, text.bytes()),
         Expr::Null(at) => null(alloc, *at),
+        Expr::Dollar(at) => dollar(alloc, *at, around.dollar),
+        Expr::Post(root, suffixes) => named(alloc, root, suffixes, around),
+        Expr::System(name, actuals) => system(alloc, name, actuals, around),
+        Expr::SuperNew { at, actuals, .. } => super_new(alloc, *at, actuals, around),
         Expr::Group(_, inner) => expr(alloc, inner, around),
         Expr::Join(at, items) => join(alloc, *at, joined(alloc, items, around)),
         Expr::Repeat {
@@ -162,9 +176,183 @@ pub fn expr(alloc: Global, e: &Expr, around: &Around) -> Result<Typed, Refusal>
                 b,
             )
         }
-        _ => Err(Refusal::Memory),
     }
 }
+
+// ---- names with what follows them
+
+/// A name with what follows it, as a value.
+#[cycle(elaborate)]
+fn named(alloc: Global, root: &Root, suffixes: &[Suffix], around: &Around) -> Result<Typed, Refusal>
+    ensures { Gives result (expressions.things (around_in around.now) (tree.place_of_root root.now) (things.root_thing (around_in around.now) root.now) (view.suffix_list suffixes.now)
+        ▷ things.thing_value (around_in around.now) (tree.place_of_root root.now)) }
+{
+    let place = place_of_root(root);
+    let thing = judged_thing(root_thing(alloc, around, root))?;
+    let thing = behind_root(alloc, place, thing, suffixes, around)?;
+    let value = value_step(alloc, around, place, thing)?;
+    answer(value)
+}
+
+/// What follows a name, from the left.
+#[cycle(elaborate)]
+fn behind_root<'a>(
+    alloc: Global,
+    place: Place,
+    thing: Checked<Thing<'a>>,
+    suffixes: &[Suffix],
+    around: &Around<'a>,
+) -> Result<Checked<Thing<'a>>, Refusal>
+    ensures ok { IfOk result (λ c. given thing_in c ≡ expressions.things (around_in around.now) place (given thing_in thing) (view.suffix_list suffixes.now)) }
+    ensures err { IfErr result (λ e. e ≡ Memory) }
+{
+    let mut thing = thing;
+    for suffix in suffixes {
+        thing = step(alloc, place, thing, suffix, around)?;
+    }
+    Ok(thing)
+}
+
+/// One more suffix.
+#[cycle(elaborate)]
+fn step<'a>(
+    alloc: Global,
+    place: Place,
+    thing: Checked<Thing<'a>>,
+    suffix: &Suffix,
+    around: &Around<'a>,
+) -> Result<Checked<Thing<'a>>, Refusal>
+    ensures ok { IfOk result (λ c. (rest : tree.Suffixes) → expressions.things (around_in around.now) place (given thing_in c) rest
+        ≡ expressions.things (around_in around.now) place (given thing_in thing) (view.suffix suffix.now rest)) }
+    ensures err { IfErr result (λ e. e ≡ Memory) }
+{
+    match suffix {
+        Suffix::Member(name) => member_step(alloc, around, place, thing, name),
+        Suffix::Call(_, actuals) => call(alloc, place, thing, actuals, around),
+        Suffix::Select(at, index) => select(alloc, place, thing, *at, index, around),
+        Suffix::Part {
+            at,
+            word,
+            left,
+            right,
+        } => part_select(alloc, place, thing, *at, *word, left, right, around),
+    }
+}
+
+/// A call of what stands before it.
+#[cycle(elaborate)]
+fn call<'a>(
+    alloc: Global,
+    place: Place,
+    thing: Checked<Thing<'a>>,
+    actuals: &[Expr],
+    around: &Around<'a>,
+) -> Result<Checked<Thing<'a>>, Refusal>
+    ensures ok { IfOk result (λ c. given thing_in c ≡ expressions.called_with (around_in around.now) place (given thing_in thing) (view.expr_list actuals.now)) }
+    ensures err { IfErr result (λ e. e ≡ Memory) }
+{
+    let outputs = outputs_behind(alloc, &thing)?;
+    let inner = behind_object(around, &thing);
+    let args = args(alloc, outputs.as_slice(), actuals, &inner)?;
+    call_step(alloc, around, place, thing, args)
+}
+
+/// `[i]`: a bit, or an item of an array.
+#[cycle(elaborate)]
+fn select<'a>(
+    alloc: Global,
+    place: Place,
+    thing: Checked<Thing<'a>>,
+    at: Place,
+    index: &Expr,
+    around: &Around<'a>,
+) -> Result<Checked<Thing<'a>>, Refusal>
+    ensures ok { IfOk result (λ c. given thing_in c ≡ expressions.selected_by (around_in around.now) place (given thing_in thing) at (view.expr index.now)) }
+    ensures err { IfErr result (λ e. e ≡ Memory) }
+{
+    let dollar = dollar_behind(alloc, &thing)?;
+    let fault = fault_of(&thing);
+    let value = value_step(alloc, around, place, thing)?;
+    let inner = in_index(&dollar, &value, around);
+    let i = judged(expr(alloc, index, &inner))?;
+    select_step(alloc, around, at, place_of(index), fault, value, i)
+}
+
+/// `[l:r]`, `[b +: w]` or `[b -: w]`.
+#[cycle(elaborate)]
+fn part_select<'a>(
+    alloc: Global,
+    place: Place,
+    thing: Checked<Thing<'a>>,
+    at: Place,
+    word: PartWord,
+    left: &Expr,
+    right: &Expr,
+    around: &Around<'a>,
+) -> Result<Checked<Thing<'a>>, Refusal>
+    ensures ok { IfOk result (λ c. given thing_in c ≡ expressions.part_by (around_in around.now) place (given thing_in thing) at word (view.expr left.now) (view.expr right.now)) }
+    ensures err { IfErr result (λ e. e ≡ Memory) }
+{
+    let dollar = dollar_behind(alloc, &thing)?;
+    let fault = fault_of(&thing);
+    let value = value_step(alloc, around, place, thing)?;
+    let inner = in_index(&dollar, &value, around);
+    let l = judged(expr(alloc, left, &inner))?;
+    let r = judged(expr(alloc, right, &inner))?;
+    part_step(
+        alloc,
+        word,
+        at,
+        place,
+        place_of(left),
+        place_of(right),
+        fault,
+        value,
+        l,
+        r,
+    )
+}
+
+// ---- system names
+
+/// A system name as a value.
+#[cycle(elaborate)]
+fn system(alloc: Global, name: &Name, actuals: &Actuals, around: &Around) -> Result<Typed, Refusal>
+    ensures { Gives result (expressions.expr (around_in around.now) (tree.System name.now (view.actuals actuals.now))) }
+{
+    let system = system_of(name.text.bytes());
+    let ty = first_type(alloc, around, actuals)?;
+    let args = actual_args(alloc, outputs_of_system(system, actuals), actuals, around)?;
+    system_value(alloc, around, name.at, ty, args, system)
+}
+
+/// E38: `super.new` is no value.
+#[cycle(elaborate)]
+fn super_new(alloc: Global, at: Place, actuals: &Actuals, around: &Around) -> Result<Typed, Refusal>
+    ensures { Gives result (expressions.no_constructor at (arguments.parts_of (expressions.actual_args (around_in around.now) [] (view.actuals actuals.now)))) }
+{
+    let args = actual_args(alloc, &[], actuals, around)?;
+    no_constructor(at, parts(alloc, args))
+}
+
+/// The arguments between brackets, where some are written.
+#[cycle(elaborate)]
+fn actual_args(
+    alloc: Global,
+    outputs: &[bool],
+    actuals: &Actuals,
+    around: &Around,
+) -> Result<Seq<Arg>, Refusal>
+    ensures ok { IfOk result (λ as'. as' ≡ expressions.actual_args (around_in around.now) outputs.now (view.actuals actuals.now)) }
+    ensures err { IfErr result (λ e. e ≡ Memory) }
+{
+    match actuals {
+        Actuals::Unwritten => Ok(Seq::new(alloc)),
+        Actuals::Written(items) => args(alloc, outputs, items, around),
+    }
+}
+
+// ---- arguments and concatenations
 
 /// The parts of a concatenation.
 #[cycle(elaborate)]

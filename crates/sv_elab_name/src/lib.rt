@@ -4,6 +4,7 @@
 //! - `variables` has objects, variables of activations and properties as typed expressions; `object` the object at hand, and `protection`
 //!   who may name a member.
 //! - `names` has what a name alone stands for, `members` members of objects and classes, `roots` what a name begins with.
+//! - `steps` has things that may break a rule, and what follows them.
 //! - `value` has a thing as a value, `suffixes` what follows a dot, and what `$` stands for behind a thing.
 //!
 //! Each function answers what its definition in `sv_names` gives, or the first rule that is broken, or that memory ran out.
@@ -15,6 +16,7 @@ mod names;
 mod object;
 mod protection;
 mod roots;
+mod steps;
 mod suffixes;
 mod thing;
 mod value;
@@ -26,6 +28,9 @@ pub use names::{named_thing, subroutine_thing};
 pub use object::{at_hand, this_typed};
 pub use protection::{is_within, may_be_named};
 pub use roots::root_thing;
+pub use steps::{
+    dollar_behind, hidden_behind, judged_thing, member_step, outputs_behind, value_step,
+};
 pub use suffixes::{after_dot, dollar_in, signal_named, size_expr, value_member};
 pub use thing::Thing;
 pub use value::{signal_read, signal_target, thing_value};

@@ -207,24 +207,17 @@ fn dollar_of(alloc: Global, t: &Typed) -> Result<Dollar, Refusal>
 }
 
 /// What `$` stands for in an index behind a thing (7.10.1): the index of the last item of a queue; nothing behind another thing.
-pub fn dollar_in(alloc: Global, thing: &Result<Thing, Refusal>) -> Result<Dollar, Refusal>
-    ensures ok { (x : checked thing_of) → GivesAs thing_in thing.now x → IfOk result (λ d. d ≡ things.dollar_in x) }
+pub fn dollar_in(alloc: Global, thing: &Thing) -> Result<Dollar, Refusal>
+    ensures ok { IfOk result (λ d. d ≡ things.dollar_in (Good (thing_in thing.now))) }
     ensures err { IfErr result (λ e. e ≡ Memory) }
 {
     match thing {
-        Ok(thing) => match thing {
-            Thing::Value(t) => dollar_of(alloc, t),
-            Thing::Subroutine { .. } => Ok(Dollar::NoDollar),
-            Thing::Method { .. } => Ok(Dollar::NoDollar),
-            Thing::ItsResult { .. } => Ok(Dollar::NoDollar),
-            Thing::Block { .. } => Ok(Dollar::NoDollar),
-            Thing::Signal { .. } => Ok(Dollar::NoDollar),
-            Thing::TypeName { .. } => Ok(Dollar::NoDollar),
-        },
-        Err(Refusal::Memory) => Err(Refusal::Memory),
-        Err(Refusal::Rule { rule, at }) => Ok(Dollar::UnknownDollar(Fault {
-            at: *at,
-            rule: *rule,
-        })),
+        Thing::Value(t) => dollar_of(alloc, t),
+        Thing::Subroutine { .. } => Ok(Dollar::NoDollar),
+        Thing::Method { .. } => Ok(Dollar::NoDollar),
+        Thing::ItsResult { .. } => Ok(Dollar::NoDollar),
+        Thing::Block { .. } => Ok(Dollar::NoDollar),
+        Thing::Signal { .. } => Ok(Dollar::NoDollar),
+        Thing::TypeName { .. } => Ok(Dollar::NoDollar),
     }
 }

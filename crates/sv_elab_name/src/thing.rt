@@ -10,9 +10,11 @@ use crate::suffixes::member_of_value;
 use crate::value::{bare_method, bare_subroutine, result_value};
 use crate::{signal_named, signal_read, value_member};
 use std::alloc::Global;
-use sv_names::{Around, Callee, Checked, Method, Refusal, SignalInfo, Ty, Typed};
+use sv_elab_call::{method_called, subroutine_called};
+use sv_elab_value::values_stand;
+use sv_names::{Arg, Around, Called, Callee, Checked, Method, Refusal, SignalInfo, Ty, Typed, where_also};
 use sv_tree::Name;
-use sv_value::{Place, Text};
+use sv_value::{Place, Seq, Text};
 
 /// What a name with its members and calls can stand for. The declarations that it names are those of the scopes around.
 pub enum Thing<'a> {
@@ -253,4 +255,56 @@ impl<'a> Thing<'a> {
             }
         }
     }
+    /// What a call of the thing calls, in an expression that begins at the place. E7: it is no subroutine and no method; or a rule that the
+    /// call breaks.
+    pub fn called(
+        self,
+        alloc: Global,
+        around: &Around,
+        place: Place,
+        is_value: bool,
+        args: Seq<Arg>,
+    ) -> Result<Called, Refusal>
+        ensures { Gives result (things.called_thing (around_in around.now) place is_value (thing_in self.entry) args) }
+    {
+        match self {
+            Thing::Subroutine {
+                callee,
+                object,
+                is_direct,
+                at: _,
+            } => subroutine_called(alloc, around, place, is_value, callee, object, is_direct, args),
+            Thing::Method {
+                method,
+                object,
+                at: _,
+            } => method_called(alloc, around, place, is_value, method, object, args),
+            Thing::ItsResult {
+                callee,
+                object,
+                variable: _,
+                at: _,
+            } => subroutine_called(alloc, around, place, is_value, callee, object, false, args),
+            Thing::Value(t) => not_called(t.at, args.as_slice()),
+            Thing::Block {
+                path: _,
+                signals: _,
+                at,
+            } => not_called(at, args.as_slice()),
+            Thing::Signal {
+                block: _,
+                place: _,
+                signal: _,
+                at,
+            } => not_called(at, args.as_slice()),
+            Thing::TypeName { ty: _, at } => not_called(at, args.as_slice()),
+        }
+    }
+}
+
+/// E7: no subroutine, and what its arguments break by themselves.
+fn not_called(at: Place, args: &[Arg]) -> Result<Called, Refusal>
+    ensures { Gives result (things.not_called at args.now) }
+{
+    where_also(Err(Refusal::Rule { rule: 7, at }), values_stand(args))
 }

@@ -46,3 +46,14 @@ broken_joined f (Good x) (Good ys) = refl
 broken_joined f (Good x) (Broken h) = refl
 broken_joined f (Broken g) (Good ys) = refl
 broken_joined f (Broken g) (Broken h) = ap Broken (earlier_assoc f g h)
+
+-- three lists
+pub joined_grouped : {A : Type 0} (xs ys zs : Checked (List A)) → joined (joined xs ys) zs ≡ joined xs (joined ys zs)
+joined_grouped (Good xs) (Good ys) (Good zs) = ap Good (append_assoc xs ys zs)
+joined_grouped (Good xs) (Good ys) (Broken h) = refl
+joined_grouped (Good xs) (Broken g) (Good zs) = refl
+joined_grouped (Good xs) (Broken g) (Broken h) = refl
+joined_grouped (Broken f) (Good ys) (Good zs) = refl
+joined_grouped (Broken f) (Good ys) (Broken h) = refl
+joined_grouped (Broken f) (Broken g) (Good zs) = refl
+joined_grouped (Broken f) (Broken g) (Broken h) = ap Broken (earlier_assoc f g h)

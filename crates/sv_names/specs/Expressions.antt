@@ -34,7 +34,7 @@ use Rattle.sv_names.specs.Types.{is_integral, is_container, selectable, plain_ve
 use Rattle.sv_names.specs.Hoisted.{pure, mapped}
 use Rattle.sv_names.specs.Named.{Around, meaning, found, names_type, told_at, in_turn, behind, hidden_in}
 use Rattle.sv_names.specs.Values.{value_typed, number_operand, constant_count}
-use Rattle.sv_names.specs.Operators.{literal_typed, ticks_in, time_typed, unary_typed, kind_of, decides_early, binary_of, choose_of, join_of, repeat_of, cast_to, sized, vector_word_four_state, atom_type}
+use Rattle.sv_names.specs.Operators.{Placed, literal_typed, ticks_in, time_typed, unary_typed, kind_of, decides_early, binary_of, choose_of, join_of, repeat_of, cast_to, sized, vector_word_four_state, atom_type}
 use Rattle.sv_names.specs.Targets.{Spot, concatenated, may_begin, selects_stand, hidden_in_target}
 use Rattle.sv_names.specs.Arguments.{value_of_arg, values_stand, parts_of}
 use Rattle.sv_names.specs.Formats.{sformatf}
@@ -44,13 +44,18 @@ use Rattle.sv_names.specs.Things.{Thing, A_value, A_subroutine, A_method, Its_re
 
 -- ---- system names
 
--- each with what it is
+-- each with what it is: functions
+abbrev pub system_functions : List (List ℕ × System)
+system_functions =
+    (codes "$time", system.Time) ∷ (codes "$cast", system.Cast) ∷ (codes "$bits", system.Bits) ∷ (codes "$clog2", system.Clog2)
+    ∷ (codes "$signed", system.Signed) ∷ (codes "$unsigned", system.Unsigned) ∷ (codes "$sformatf", system.Sformatf) ∷ []
+
+-- tasks, and the functions behind them
 abbrev pub system_names : List (List ℕ × System)
 system_names =
-    (codes "$display", system.Display) ∷ (codes "$write", system.Write) ∷ (codes "$strobe", system.Strobe) ∷ (codes "$monitor", system.Monitor)
-    ∷ (codes "$finish", system.Finish) ∷ (codes "$exit", system.Exit) ∷ (codes "$dumpfile", system.Dump) ∷ (codes "$dumpvars", system.Dump)
-    ∷ (codes "$time", system.Time) ∷ (codes "$cast", system.Cast) ∷ (codes "$bits", system.Bits) ∷ (codes "$clog2", system.Clog2)
-    ∷ (codes "$signed", system.Signed) ∷ (codes "$unsigned", system.Unsigned) ∷ (codes "$sformatf", system.Sformatf) ∷ []
+    (codes "$display", system.Display) ∷ (codes "$write", system.Write) ∷ (codes "$strobe", system.Strobe)
+    ∷ (codes "$monitor", system.Monitor) ∷ (codes "$finish", system.Finish) ∷ (codes "$exit", system.Exit)
+    ∷ (codes "$dumpfile", system.Dump) ∷ (codes "$dumpvars", system.Dump) ∷ system_functions
 
 -- what a name is in a table
 abbrev pub system_in : List ℕ → List (List ℕ × System) → System
@@ -66,9 +71,13 @@ abbrev pub one_of : Place → List Arg → Checked Arg
 one_of at (a ∷ []) = Good a
 one_of at as' = broken_at 31 at where_also values_stand as'
 
--- the number that it is
+-- E15, E42: the number that an argument is
+abbrev pub number_of_arg : Arg → Checked Typed
+number_of_arg a = value_of_arg a ▷ number_operand a.at
+
+-- the number that the only argument is
 abbrev pub number_of_one : Place → List Arg → Checked Typed
-number_of_one at as' = one_of at as' ▷ (λ a. value_of_arg a ▷ number_operand a.at)
+number_of_one at as' = one_of at as' ▷ number_of_arg
 
 -- a number of bits, of type int
 abbrev pub bits_literal : ℕ → flat.Expr
@@ -126,7 +135,11 @@ none_of at (a ∷ as') = broken_at 31 at where_also values_stand (a ∷ as')
 abbrev pub time_now : Place → Typed
 time_now at = value_typed (selectable 64 false true) at false (pure (flat.Time at))
 
--- E32: a system task is no value; E55
+-- E55: there is no such function
+abbrev pub unknown_system : Place → List Arg → Checked Typed
+unknown_system at as' = broken_at 55 at where_also values_stand as'
+
+-- E32: a system task is no value
 abbrev pub system_value : Around → Place → Option (Checked Ty) → List Arg → System → Checked Typed
 system_value ar at t as' system.Time = none_of at as' ▷ (λ _. Good (time_now at))
 system_value ar at t as' system.Bits = bits_of at t as'
@@ -135,7 +148,7 @@ system_value ar at t as' system.Signed = given (signed_as at true) (number_of_on
 system_value ar at t as' system.Unsigned = given (signed_as at false) (number_of_one at as')
 system_value ar at t as' system.Sformatf = sformatf at as'
 system_value ar at t as' system.Cast = given (as_value ar at) (cast_called ar true at as')
-system_value ar at t as' system.Unknown = broken_at 55 at where_also values_stand as'
+system_value ar at t as' system.Unknown = unknown_system at as'
 system_value ar at t as' task = broken_at 32 at
 
 -- `$cast` of two arguments takes the first one as a target
@@ -236,6 +249,10 @@ dollar_typed at NoDollar = broken_at 7 at
 dollar_typed at (UnknownDollar f) = Broken f
 dollar_typed at (LastIndex e) = Good (value_typed int_type at false (pure e))
 
+-- E38: `super.new` stands only as the first statement of a constructor
+abbrev pub no_constructor : Place → Checked (List Placed) → Checked Typed
+no_constructor at parts = both (broken_at 38 at) parts ▷ (λ p. p.0)
+
 -- a string literal
 abbrev pub literal_text : tree.Expr → Option (List ℕ)
 literal_text (tree.Text at text) = Some (text_of text)
@@ -307,7 +324,7 @@ abbrev mutual
   expr ar (tree.Post r s) = things ar (place_of_root r) (root_thing ar r) s ▷ thing_value ar (place_of_root r)
   expr ar (tree.System n a) =
       system_value ar n.at (first_type ar a) (actual_args ar (outputs_of_system (system_of n) a) a) (system_of n)
-  expr ar (tree.SuperNew at new a) = both (broken_at 38 at) (parts_of (actual_args ar [] a)) ▷ (λ p. p.0)
+  expr ar (tree.SuperNew at new a) = no_constructor at (parts_of (actual_args ar [] a))
   expr ar (tree.Join at es) = parts_of (args ar [] es) ▷ join_of at
   expr ar (tree.Repeat at n inner es) =
       repeat_of at (expr ar n ▷ constant_count (place_of n)) (parts_of (args ar [] es) ▷ join_of inner)

@@ -329,12 +329,16 @@ thing_place (A_block p ss at) = at
 thing_place (The_signal b i s at) = at
 thing_place (A_type t at) = at
 
--- E7: what is called is a subroutine or a method
+-- E7: no subroutine and no method
+abbrev pub not_called : Place → List Arg → Checked Called
+not_called at as' = broken_at 7 at where_also values_stand as'
+
+-- what is called is a subroutine or a method
 abbrev pub called_thing : Around → Place → (is_value : Bool) → Thing → List Arg → Checked Called
 called_thing ar pe v (A_subroutine c o direct at) as' = subroutine_called ar pe v c o direct as'
 called_thing ar pe v (A_method m o at) as' = method_called ar pe v m o as'
 called_thing ar pe v (Its_result c o x at) as' = subroutine_called ar pe v c o false as'
-called_thing ar pe v th as' = broken_at 7 (thing_place th) where_also values_stand as'
+called_thing ar pe v th as' = not_called (thing_place th) as'
 
 -- what follows brackets
 abbrev pub after_actuals : Around → Place → List Arg → Thing → Checked Thing
@@ -371,16 +375,28 @@ outputs_of_thing th = []
 abbrev pub called_step : Around → Place → Checked Thing → List Arg → Checked Thing
 called_step ar pe th as' = and_behind (th ▷ after_actuals ar pe as') th (λ _. values_stand as')
 
+-- `[i]` of a value
+abbrev pub value_selected : Around → (at : Place) → (pi : Place) → Checked Typed → Checked Typed → Checked Thing
+value_selected ar at pi v i = given A_value (v ▷ (λ t. select_of ar at pi t i))
+
 -- `[i]` behind what it selects from, as a thing and as a value
 abbrev pub select_step : Around → (at : Place) → (pi : Place) → Checked Thing → Checked Typed → Checked Typed → Checked Thing
-select_step ar at pi th v i = and_behind (given A_value (v ▷ (λ t. select_of ar at pi t i))) th (λ _. only i)
+select_step ar at pi th v i = and_behind (value_selected ar at pi v i) th (λ _. only i)
 
--- `[l:r]`, `[b +: w]` or `[b -: w]` behind what it selects from
+-- whether two values break a rule, alone
+abbrev pub both_stand : Checked Typed → Checked Typed → Checked (Unit {0})
+both_stand a b = only (both a b)
+
+-- `[l:r]`, `[b +: w]` or `[b -: w]` of a value
+abbrev pub value_parted :
+    PartWord → (at : Place) → Place → (pl : Place) → (pr : Place) → Checked Typed → Checked Typed → Checked Typed → Checked Thing
+value_parted w at pe pl pr v l r = given A_value (v ▷ (λ t. part_select_of w at pe pl pr t l r))
+
+-- the same behind what it selects from
 abbrev pub part_step :
     PartWord → (at : Place) → Place → (pl : Place) → (pr : Place) → Checked Thing → Checked Typed → Checked Typed → Checked Typed
     → Checked Thing
-part_step w at pe pl pr th v l r =
-    and_behind (given A_value (v ▷ (λ t. part_select_of w at pe pl pr t l r))) th (λ _. only (both l r))
+part_step w at pe pl pr th v l r = and_behind (value_parted w at pe pl pr v l r) th (λ _. both_stand l r)
 
 -- ---- `$`
 

@@ -1,0 +1,150 @@
+// Things that may break a rule, and what follows them.
+ghost use Rattle.std.specs.Prelude.{◌≡◌, List, map, IfOk, IfErr};
+ghost use Rattle.sv_names.specs.declared.argument.Arg.{Arg as arg};
+ghost use Rattle.sv_names.specs.declared.checked.Checked.{Checked as checked};
+ghost use Rattle.sv_names.specs.declared.checked.Checked.TheVariants.{Good};
+ghost use Rattle.sv_names.specs.declared.refusal.Refusal.TheVariants.{Memory};
+ghost use Rattle.sv_names.specs.Checked.{◌▷◌, given};
+ghost use Rattle.sv_names.specs.Calls as calls;
+ghost use Rattle.sv_names.specs.Given.{Gives, GivesAs};
+ghost use Rattle.sv_names.specs.Things as things;
+ghost use Rattle.sv_names.specs.Things.{Thing as thing_of};
+ghost use Rattle.sv_names.specs.Views.{around_in};
+ghost use Rattle.sv_elab_name.specs.Things.{thing_in};
+
+use crate::{Thing, dollar_in};
+use std::alloc::Global;
+use sv_names::{Action, Around, Checked, Dollar, Fault, Formal, Refusal, Typed, judged};
+use sv_tree::{Direction, Name};
+use sv_value::{Place, Seq};
+
+/// What a function answers, as a thing that may break a rule.
+pub fn judged_thing(thing: Result<Thing, Refusal>) -> Result<Checked<Thing>, Refusal>
+    ensures ok { (x : checked thing_of) → GivesAs thing_in thing x → IfOk result (λ c. given thing_in c ≡ x) }
+    ensures err { IfErr result (λ e. e ≡ Memory) }
+{
+    match thing {
+        Ok(thing) => Ok(Checked::Good(thing)),
+        Err(Refusal::Rule { rule, at }) => Ok(Checked::Broken(Fault { at, rule })),
+        Err(Refusal::Memory) => Err(Refusal::Memory),
+    }
+}
+
+/// What follows a dot.
+pub fn member_step<'a>(
+    alloc: Global,
+    around: &Around<'a>,
+    place: Place,
+    thing: Checked<Thing<'a>>,
+    name: &Name,
+) -> Result<Checked<Thing<'a>>, Refusal>
+    ensures ok { IfOk result (λ c. given thing_in c ≡ (given thing_in thing ▷ things.after_dot (around_in around.now) place name.now)) }
+    ensures err { IfErr result (λ e. e ≡ Memory) }
+{
+    match thing {
+        Checked::Good(thing) => judged_thing(thing.member(alloc, around, place, name)),
+        Checked::Broken(f) => Ok(Checked::Broken(f)),
+    }
+}
+
+/// A thing as a value.
+pub fn value_step(
+    alloc: Global,
+    around: &Around,
+    place: Place,
+    thing: Checked<Thing>,
+) -> Result<Checked<Typed>, Refusal>
+    ensures ok { IfOk result (λ c. c ≡ (given thing_in thing ▷ things.thing_value (around_in around.now) place)) }
+    ensures err { IfErr result (λ e. e ≡ Memory) }
+{
+    match thing {
+        Checked::Good(thing) => judged(thing.value(alloc, around, place)),
+        Checked::Broken(f) => Ok(Checked::Broken(f)),
+    }
+}
+
+/// What `$` stands for in an index behind a thing.
+pub fn dollar_behind(alloc: Global, thing: &Checked<Thing>) -> Result<Dollar, Refusal>
+    ensures ok { IfOk result (λ d. d ≡ things.dollar_in (given thing_in thing.now)) }
+    ensures err { IfErr result (λ e. e ≡ Memory) }
+{
+    match thing {
+        Checked::Good(thing) => dollar_in(alloc, thing),
+        Checked::Broken(f) => Ok(Dollar::UnknownDollar(*f)),
+    }
+}
+
+/// How many hidden variables stand before the arguments of what is called.
+pub fn hidden_behind(thing: &Checked<Thing>) -> usize
+    ensures { result ≡ things.hidden_before (given thing_in thing.now) }
+{
+    match thing {
+        Checked::Good(thing) => thing.hidden_before(),
+        Checked::Broken(_) => 0,
+    }
+}
+
+// ---- which arguments are targets
+
+/// Whether an argument is written.
+fn is_output(direction: Direction) -> bool
+    ensures { result ≡ calls.is_output direction }
+{
+    match direction {
+        Direction::Input => false,
+        _ => true,
+    }
+}
+
+/// Which arguments of a subroutine are taken as targets, from the first on.
+fn outputs_of(alloc: Global, formals: &[Formal]) -> Result<Seq<bool>, Refusal>
+    ensures ok { IfOk result (λ os. os ≡ calls.outputs_of formals.now) }
+    ensures err { IfErr result (λ e. e ≡ Memory) }
+{
+    let mut outputs = Seq::new(alloc);
+    for formal in formals {
+        outputs.push(is_output(formal.direction))?;
+    }
+    Ok(outputs)
+}
+
+/// Which arguments of a method of the language are.
+fn outputs_of_action(alloc: Global, action: Action) -> Result<Seq<bool>, Refusal>
+    ensures ok { IfOk result (λ os. os ≡ calls.outputs_of_action action) }
+    ensures err { IfErr result (λ e. e ≡ Memory) }
+{
+    let mut outputs = Seq::new(alloc);
+    match action {
+        Action::Walk(_) => outputs.push(true)?,
+        Action::Get { .. } => outputs.push(true)?,
+        _ => {}
+    }
+    Ok(outputs)
+}
+
+/// Which arguments of what is called are.
+fn outputs_of_thing(alloc: Global, thing: &Thing) -> Result<Seq<bool>, Refusal>
+    ensures ok { IfOk result (λ os. os ≡ things.outputs_of_thing (Good (thing_in thing.now))) }
+    ensures err { IfErr result (λ e. e ≡ Memory) }
+{
+    match thing {
+        Thing::Subroutine { callee, .. } => outputs_of(alloc, callee.formals.as_slice()),
+        Thing::Method { method, .. } => outputs_of_action(alloc, method.action),
+        Thing::ItsResult { callee, .. } => outputs_of(alloc, callee.formals.as_slice()),
+        Thing::Value(_) => Ok(Seq::new(alloc)),
+        Thing::Block { .. } => Ok(Seq::new(alloc)),
+        Thing::Signal { .. } => Ok(Seq::new(alloc)),
+        Thing::TypeName { .. } => Ok(Seq::new(alloc)),
+    }
+}
+
+/// Which arguments of what is called are taken as targets, from the first on; none where it breaks a rule.
+pub fn outputs_behind(alloc: Global, thing: &Checked<Thing>) -> Result<Seq<bool>, Refusal>
+    ensures ok { IfOk result (λ os. os ≡ things.outputs_of_thing (given thing_in thing.now)) }
+    ensures err { IfErr result (λ e. e ≡ Memory) }
+{
+    match thing {
+        Checked::Good(thing) => outputs_of_thing(alloc, thing),
+        Checked::Broken(_) => Ok(Seq::new(alloc)),
+    }
+}
