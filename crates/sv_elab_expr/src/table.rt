@@ -158,7 +158,16 @@ pub fn expr(alloc: Global, e: &Expr, around: &Around) -> Result<Typed, Refusal>
             let place = right_of(*word, around);
             let place = after(&place, &a)?;
             let b = expr(alloc, right, &place);
-            binary(alloc, *word, *at, place_of(left), place_of(right), a, b)
+            binary(
+                alloc,
+                around.classes,
+                *word,
+                *at,
+                place_of(left),
+                place_of(right),
+                a,
+                b,
+            )
         }
         Expr::Choose { condition, yes, no } => {
             let c = expr(alloc, condition, around);
@@ -168,6 +177,7 @@ pub fn expr(alloc: Global, e: &Expr, around: &Around) -> Result<Typed, Refusal>
             let b = expr(alloc, no, &second);
             choose(
                 alloc,
+                around.classes,
                 place_of(condition),
                 place_of(yes),
                 place_of(no),

@@ -1,21 +1,23 @@
 // `?:` on typed operands (IEEE 1800-2017, 11.4.11): E15.
-ghost use Rattle.std.specs.Prelude.{◌≡◌, List, IfOk, IfErr};
+ghost use Rattle.std.specs.Prelude.{◌≡◌, map, IfOk, IfErr};
 ghost use Rattle.sv_flat.specs.Expr as flat;
 ghost use Rattle.sv_names.specs.declared.checked.Checked.{Checked as checked};
 ghost use Rattle.sv_names.specs.declared.checked.Checked.TheVariants.{Good};
 ghost use Rattle.sv_names.specs.declared.typed.Typed.{Typed as typed};
-ghost use Rattle.sv_names.specs.declared.around.ClassInfo.{ClassInfo as class_info};
 ghost use Rattle.sv_names.specs.Named.{Around as around};
 ghost use Rattle.sv_names.specs.declared.refusal.Refusal.TheVariants.{Memory};
 ghost use Rattle.sv_names.specs.Hoisted as hoisted;
+ghost use Rattle.sv_names.specs.Checked.{unless};
 ghost use Rattle.sv_names.specs.Operators as operators;
+ghost use Rattle.sv_names.specs.Values as values;
 ghost use Rattle.sv_names.specs.Given.{Gives};
+ghost use Rattle.sv_elab_operator.specs.Choices.{branches_by, choose_by};
 
 use crate::operators::context_of;
 use std::alloc::Global;
-use sv_elab_value::{code_of, expr_of, item, operand, paired, value_typed};
+use sv_elab_value::{code_of, common_reference, expr_of, item, operand, paired, value_typed};
 use sv_flat::{Expr, ExprForm};
-use sv_names::{Hoisted, Refusal, Ty, Typed, both, plain_vector};
+use sv_names::{ClassInfo, Hoisted, Refusal, Ty, Typed, both, plain_vector};
 use sv_value::Place;
 
 /// The type of two numbers.
@@ -30,16 +32,36 @@ fn chosen_type(condition: &Ty, a: &Ty, b: &Ty) -> Ty
     )
 }
 
-/// E15: the type of two branches that fit each other. References are not written yet.
+/// E15: the common type of two references.
+fn common_type(
+    alloc: Global,
+    classes: &[&ClassInfo],
+    right: Place,
+    a: &Ty,
+    b: &Ty,
+) -> Result<Ty, Refusal>
+    ensures { Gives result (unless 15 right (values.common_reference (map (λ k. k.now) classes.now) a.now b.now)) }
+{
+    match common_reference(alloc, classes, a, b)? {
+        Some(ty) => Ok(ty),
+        None => Err(Refusal::Rule {
+            rule: 15,
+            at: right,
+        }),
+    }
+}
+
+/// E15: the type of two branches that fit each other.
 fn branch_type(
     alloc: Global,
+    classes: &[&ClassInfo],
     left: Place,
     right: Place,
     condition: &Ty,
     a: &Ty,
     b: &Ty,
 ) -> Result<Ty, Refusal>
-    ensures { (ks : List class_info) → Gives result (operators.branch_type ks left right condition.now a.now b.now) }
+    ensures { Gives result (operators.branch_type (map (λ k. k.now) classes.now) left right condition.now a.now b.now) }
 {
     if a.is_same_enum(b) {
         let ty = a.copy(alloc)?;
@@ -52,7 +74,7 @@ fn branch_type(
         return Ok(Ty::Text);
     }
     if a.is_reference() && b.is_reference() {
-        return Err(Refusal::Memory);
+        return common_type(alloc, classes, right, a, b);
     }
     if a.is_integral() || a.is_text() || a.is_reference() {
         Err(Refusal::Rule {
@@ -112,6 +134,7 @@ fn choose_typed(
 /// A choice of two branches.
 fn branches(
     alloc: Global,
+    classes: &[&ClassInfo],
     at: Place,
     left: Place,
     right: Place,
@@ -119,18 +142,19 @@ fn branches(
     a: Typed,
     b: Typed,
 ) -> Result<Typed, Refusal>
-    ensures { (ar : around) → Gives result (operators.branches ar at left right condition a b) }
+    ensures { Gives result (branches_by (map (λ k. k.now) classes.now) at left right condition a b) }
 {
-    match branch_type(alloc, left, right, &condition.ty, &a.ty, &b.ty) {
+    match branch_type(alloc, classes, left, right, &condition.ty, &a.ty, &b.ty) {
         Ok(ty) => choose_typed(alloc, at, condition, a, b, ty),
         Err(e) => Err(e),
     }
 }
 
-/// `?:` with its operands.
+/// `?:` with its operands, by the classes that can be named.
 #[tactic(auto, using(crate::proofs::Judged::fails_then))]
-pub fn choose(
+fn choose_by(
     alloc: Global,
+    classes: &[&ClassInfo],
     at: Place,
     left: Place,
     right: Place,
@@ -138,10 +162,26 @@ pub fn choose(
     a: Result<Typed, Refusal>,
     b: Result<Typed, Refusal>,
 ) -> Result<Typed, Refusal>
-    ensures { (ar : around) (x y z : checked typed) → Gives condition x → Gives a y → Gives b z → Gives result (operators.choose_of ar at left right x y z) }
+    ensures { (x y z : checked typed) → Gives condition x → Gives a y → Gives b z → Gives result (choose_by (map (λ k. k.now) classes.now) at left right x y z) }
 {
     match both(operand(at, condition), both(item(a), item(b))) {
-        Ok((condition, (a, b))) => branches(alloc, at, left, right, condition, a, b),
+        Ok((condition, (a, b))) => branches(alloc, classes, at, left, right, condition, a, b),
         Err(e) => Err(e),
     }
+}
+
+/// E15, E42: `?:` with its operands; the common type of references is found by the classes that can be named.
+pub fn choose(
+    alloc: Global,
+    classes: &[&ClassInfo],
+    at: Place,
+    left: Place,
+    right: Place,
+    condition: Result<Typed, Refusal>,
+    a: Result<Typed, Refusal>,
+    b: Result<Typed, Refusal>,
+) -> Result<Typed, Refusal>
+    ensures { (ar : around) (x y z : checked typed) → ar.classes ≡ map (λ k. k.now) classes.now → Gives condition x → Gives a y → Gives b z → Gives result (operators.choose_of ar at left right x y z) }
+{
+    choose_by(alloc, classes, at, left, right, condition, a, b)
 }

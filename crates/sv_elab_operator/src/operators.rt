@@ -1,10 +1,9 @@
 // Operators on typed operands (IEEE 1800-2017, 11.4).
-ghost use Rattle.std.specs.Prelude.{◌≡◌, List, IfOk, IfErr};
+ghost use Rattle.std.specs.Prelude.{◌≡◌, map, is_some, IfOk, IfErr};
 ghost use Rattle.sv_flat.specs.Expr as flat;
 ghost use Rattle.sv_names.specs.declared.checked.Checked.{Checked as checked};
 ghost use Rattle.sv_names.specs.declared.checked.Checked.TheVariants.{Good};
 ghost use Rattle.sv_names.specs.declared.typed.Typed.{Typed as typed};
-ghost use Rattle.sv_names.specs.declared.around.ClassInfo.{ClassInfo as class_info};
 ghost use Rattle.sv_names.specs.Named.{Around as around};
 ghost use Rattle.sv_names.specs.declared.refusal.Refusal.TheVariants.{Memory};
 ghost use Rattle.sv_names.specs.Checked.{◌▷◌, given, both as both_of};
@@ -15,9 +14,11 @@ ghost use Rattle.sv_names.specs.Types as types;
 ghost use Rattle.sv_names.specs.Given.{Gives};
 
 use std::alloc::Global;
-use sv_elab_value::{bits_of, code_of, expr_of, item, known_index, operand, paired, value_typed};
+use sv_elab_value::{
+    bits_of, code_of, common_reference, expr_of, item, known_index, operand, paired, value_typed,
+};
 use sv_flat::{Context, Expr, ExprForm, is_in_context, operands_of};
-use sv_names::{Hoisted, Operands, Refusal, Ty, Typed, both, plain_vector};
+use sv_names::{ClassInfo, Hoisted, Operands, Refusal, Ty, Typed, both, plain_vector};
 use sv_tree::{BinaryWord, UnaryWord};
 use sv_value::{BinOp, Place, UnOp};
 
@@ -230,18 +231,53 @@ fn is_equality(op: BinOp) -> bool
     }
 }
 
-/// E15: an operator compares two types. References are not written yet.
-fn comparison_stands(op: BinOp, left: Place, right: Place, a: &Ty, b: &Ty) -> Result<(), Refusal>
-    ensures { (ks : List class_info) → Gives result (operators.comparison_stands ks op left right a.now b.now) }
+/// Whether two references have a common type (8.16).
+fn are_related(alloc: Global, classes: &[&ClassInfo], a: &Ty, b: &Ty) -> Result<bool, Refusal>
+    ensures ok { IfOk result (λ t. t ≡ is_some (values.common_reference (map (λ k. k.now) classes.now) a.now b.now)) }
+    ensures err { IfErr result (λ e. e ≡ Memory) }
+{
+    let common = common_reference(alloc, classes, a, b)?;
+    Ok(common.is_some())
+}
+
+/// Whether an operator compares two types.
+#[tactic(auto, using(crate::proofs::References::comparable_is))]
+fn are_comparable(
+    alloc: Global,
+    classes: &[&ClassInfo],
+    op: BinOp,
+    a: &Ty,
+    b: &Ty,
+) -> Result<bool, Refusal>
+    ensures ok { IfOk result (λ t. t ≡ operators.are_comparable (map (λ k. k.now) classes.now) op a.now b.now) }
+    ensures err { IfErr result (λ e. e ≡ Memory) }
 {
     if a.is_integral() && b.is_integral() {
-        return Ok(());
+        return Ok(true);
     }
     if a.is_text() && b.is_text() {
-        return Ok(());
+        return Ok(true);
     }
-    if a.is_reference() && b.is_reference() {
-        return Err(Refusal::Memory);
+    if is_equality(op) && a.is_reference() && b.is_reference() {
+        return are_related(alloc, classes, a, b);
+    }
+    Ok(false)
+}
+
+/// E15: an operator compares two types.
+fn comparison_stands(
+    alloc: Global,
+    classes: &[&ClassInfo],
+    op: BinOp,
+    left: Place,
+    right: Place,
+    a: &Ty,
+    b: &Ty,
+) -> Result<(), Refusal>
+    ensures { Gives result (operators.comparison_stands (map (λ k. k.now) classes.now) op left right a.now b.now) }
+{
+    if are_comparable(alloc, classes, op, a, b)? {
+        return Ok(());
     }
     if a.is_integral() || a.is_text() || is_equality(op) && a.is_reference() {
         Err(Refusal::Rule {
@@ -254,35 +290,38 @@ fn comparison_stands(op: BinOp, left: Place, right: Place, a: &Ty, b: &Ty) -> Re
 }
 
 /// A comparison of two items.
+#[tactic(auto, using(crate::proofs::References::compared_by))]
 fn comparable(
     alloc: Global,
+    classes: &[&ClassInfo],
     op: BinOp,
     left: Place,
     right: Place,
     a: Typed,
     b: Typed,
 ) -> Result<Typed, Refusal>
-    ensures { (ar : around) → Gives result (operators.comparable ar op left right a b) }
+    ensures { (ar : around) → ar.classes ≡ map (λ k. k.now) classes.now → Gives result (operators.comparable ar op left right a b) }
 {
-    match comparison_stands(op, left, right, &a.ty, &b.ty) {
+    match comparison_stands(alloc, classes, op, left, right, &a.ty, &b.ty) {
         Ok(()) => binary_typed(alloc, op, left, a, b),
         Err(e) => Err(e),
     }
 }
 
-/// An operator that compares two operands.
+/// E15, E42: an operator that compares two operands; references by the classes that can be named.
 pub fn comparison(
     alloc: Global,
+    classes: &[&ClassInfo],
     op: BinOp,
     left: Place,
     right: Place,
     a: Result<Typed, Refusal>,
     b: Result<Typed, Refusal>,
 ) -> Result<Typed, Refusal>
-    ensures { (ar : around) (x y : checked typed) → Gives a x → Gives b y → Gives result (both_of (x ▷ values.one_item) (y ▷ values.one_item) ▷ (λ p. operators.comparable ar op left right p.0 p.1)) }
+    ensures { (ar : around) (x y : checked typed) → ar.classes ≡ map (λ k. k.now) classes.now → Gives a x → Gives b y → Gives result (both_of (x ▷ values.one_item) (y ▷ values.one_item) ▷ (λ p. operators.comparable ar op left right p.0 p.1)) }
 {
     match both(item(a), item(b)) {
-        Ok((a, b)) => comparable(alloc, op, left, right, a, b),
+        Ok((a, b)) => comparable(alloc, classes, op, left, right, a, b),
         Err(e) => Err(e),
     }
 }
@@ -346,9 +385,10 @@ pub fn power(
     }
 }
 
-/// An operator with its operands.
+/// E15, E42, E53: an operator with its operands; references are compared by the classes that can be named.
 pub fn binary(
     alloc: Global,
+    classes: &[&ClassInfo],
     op: BinaryWord,
     operator: Place,
     left: Place,
@@ -356,11 +396,11 @@ pub fn binary(
     a: Result<Typed, Refusal>,
     b: Result<Typed, Refusal>,
 ) -> Result<Typed, Refusal>
-    ensures { (ar : around) (x y : checked typed) → Gives a x → Gives b y → Gives result (operators.binary_of ar (operators.kind_of op) operator left right x y) }
+    ensures { (ar : around) (x y : checked typed) → ar.classes ≡ map (λ k. k.now) classes.now → Gives a x → Gives b y → Gives result (operators.binary_of ar (operators.kind_of op) operator left right x y) }
 {
     match kind_of(op) {
         Operands::Numbers(op) => numbers(alloc, op, left, right, a, b),
-        Operands::Comparison(op) => comparison(alloc, op, left, right, a, b),
+        Operands::Comparison(op) => comparison(alloc, classes, op, left, right, a, b),
         Operands::Power => power(alloc, operator, left, right, a, b),
     }
 }

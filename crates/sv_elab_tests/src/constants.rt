@@ -1,0 +1,213 @@
+// Constants that operators make: their types, the rules that they break, and what they are worth.
+use std::alloc::Global;
+use std::process::Abort;
+use std::test::Fail;
+use sv_digits::print;
+use sv_elab_operator::{
+    binary, choose, join, number, repeat, sized, string, time, unary, with_part,
+};
+use sv_elab_value::{alone, bits_of, constant_count, constant_number};
+use sv_flat::{ExprForm, Scale};
+use sv_names::{Refusal, Typed};
+use sv_tree::{BinaryWord, UnaryWord};
+use sv_value::{Pad, Place, Radix, Seq, Text};
+
+const HERE: Place = Place {
+    file: 0,
+    line: 1,
+    col: 1,
+};
+
+/// What a constant is worth, in a base.
+fn worth(alloc: Global, t: &Typed, radix: Radix) -> Result<Text, Fail> {
+    let bits = bits_of(&t.code.value)?;
+    Ok(print(alloc, bits, radix, Pad::Least)?)
+}
+
+/// A number with its sign before it.
+fn negative(alloc: Global, text: &[u8]) -> Result<Typed, Refusal> {
+    unary(
+        alloc,
+        HERE,
+        UnaryWord::Minus,
+        HERE,
+        number(alloc, HERE, text),
+    )
+}
+
+/// What an operator gives for two numbers, as decimal digits.
+fn gives<R: Abort>(
+    rt: &R,
+    alloc: Global,
+    a: Result<Typed, Refusal>,
+    op: BinaryWord,
+    b: Result<Typed, Refusal>,
+    wanted: &[u8],
+) -> Result<(), Fail> {
+    let t = binary(alloc, &[], op, HERE, HERE, HERE, a, b)?;
+    let text = worth(alloc, &t, Radix::Dec)?;
+    assert_eq!(rt; text.bytes(), wanted);
+    Ok(())
+}
+
+// IEEE 1800-2017, 11.4.3, Table 11-4, and 11.4.3.1.
+#[test]
+fn numbers_are_divided(rt: HostRuntime) -> Result<(), Fail> {
+    let alloc = rt.alloc();
+    let rows: [(&[u8], BinaryWord, &[u8], &[u8]); 7] = [
+        (b"10", BinaryWord::Remainder, b"3", b"1"),
+        (b"12", BinaryWord::Remainder, b"3", b"0"),
+        (b"3", BinaryWord::Power, b"2", b"9"),
+        (b"2", BinaryWord::Power, b"0", b"1"),
+        (b"4'd9", BinaryWord::Plus, b"5'd9", b"18"),
+        (b"4'd9", BinaryWord::Plus, b"4'd9", b"2"),
+        (b"8'hx1", BinaryWord::Equal, b"8'hx1", b"x"),
+    ];
+    for (a, op, b, wanted) in rows {
+        let left = number(alloc, HERE, a);
+        let right = number(alloc, HERE, b);
+        gives(&rt, alloc, left, op, right, wanted)?;
+    }
+    Ok(())
+}
+
+#[test]
+fn negative_numbers_are_divided(rt: HostRuntime) -> Result<(), Fail> {
+    let alloc = rt.alloc();
+    let ten = negative(alloc, b"10");
+    gives(
+        &rt,
+        alloc,
+        ten,
+        BinaryWord::Remainder,
+        number(alloc, HERE, b"3"),
+        b"-1",
+    )?;
+    let twelve = negative(alloc, b"12");
+    gives(
+        &rt,
+        alloc,
+        twelve,
+        BinaryWord::Divide,
+        number(alloc, HERE, b"3"),
+        b"-4",
+    )?;
+    let twelve = negative(alloc, b"'d12");
+    gives(
+        &rt,
+        alloc,
+        twelve,
+        BinaryWord::Divide,
+        number(alloc, HERE, b"3"),
+        b"1431655761",
+    )
+}
+
+/// Both branches of a choice, under a condition.
+fn chosen(alloc: Global, condition: &[u8]) -> Result<Text, Fail> {
+    let t = choose(
+        alloc,
+        &[],
+        HERE,
+        HERE,
+        HERE,
+        number(alloc, HERE, condition),
+        number(alloc, HERE, b"4'b0011"),
+        number(alloc, HERE, b"4'b0101"),
+    )?;
+    worth(alloc, &t, Radix::Hex)
+}
+
+// IEEE 1800-2017, 11.4.11, Table 11-20: bits that differ are x.
+#[test]
+fn a_condition_chooses(rt: HostRuntime) -> Result<(), Fail> {
+    let alloc = rt.alloc();
+    assert_eq!(rt; chosen(alloc, b"1'b1")?.bytes(), b"3");
+    assert_eq!(rt; chosen(alloc, b"1'b0")?.bytes(), b"5");
+    assert_eq!(rt; chosen(alloc, b"1'bx")?.bytes(), b"X");
+    Ok(())
+}
+
+/// `{4'b1001, 2'b10}`
+fn pair(alloc: Global) -> Result<Typed, Refusal> {
+    let none = Ok(Seq::new(alloc));
+    let low = with_part(HERE, number(alloc, HERE, b"2'b10"), none);
+    join(
+        alloc,
+        HERE,
+        with_part(HERE, number(alloc, HERE, b"4'b1001"), low),
+    )
+}
+
+// IEEE 1800-2017, 11.4.12 and 11.4.12.1.
+#[test]
+fn parts_are_joined(rt: HostRuntime) -> Result<(), Fail> {
+    let alloc = rt.alloc();
+    let t = pair(alloc)?;
+    assert_eq!(rt; worth(alloc, &t, Radix::Bin)?.bytes(), b"100110");
+    let t = repeat(alloc, HERE, Ok(2), pair(alloc))?;
+    assert_eq!(rt; worth(alloc, &t, Radix::Bin)?.bytes(), b"100110100110");
+    let wide = repeat(alloc, HERE, Ok(11), pair(alloc)).err();
+    assert_eq!(rt; wide, Some(Refusal::Rule { rule: 13, at: HERE }));
+    let wide = repeat(alloc, HERE, Ok(1 << 63), pair(alloc)).err();
+    assert_eq!(rt; wide, Some(Refusal::Rule { rule: 13, at: HERE }));
+    Ok(())
+}
+
+// IEEE 1800-2017, 6.24.1: a cast to a width keeps the sign.
+#[test]
+fn casts_keep_the_sign(rt: HostRuntime) -> Result<(), Fail> {
+    let alloc = rt.alloc();
+    let t = sized(alloc, HERE, HERE, 8, number(alloc, HERE, b"4'sb1000")?)?;
+    assert_eq!(rt; worth(alloc, &t, Radix::Dec)?.bytes(), b"-8");
+    let wide = sized(alloc, HERE, HERE, 65, number(alloc, HERE, b"1")?).err();
+    assert_eq!(rt; wide, Some(Refusal::Rule { rule: 13, at: HERE }));
+    Ok(())
+}
+
+// IEEE 1800-2017, 5.8 and 3.14: 2.1 ns in steps of 100 ps.
+#[test]
+fn times_are_whole(rt: HostRuntime) -> Result<(), Fail> {
+    let alloc = rt.alloc();
+    let scale = Scale {
+        unit: 6,
+        precision: 5,
+    };
+    let t = time(alloc, &scale, HERE, b"2100ps")?;
+    assert_eq!(rt; worth(alloc, &t, Radix::Dec)?.bytes(), b"2");
+    let t = time(alloc, &scale, HERE, b"2500ps")?;
+    assert_eq!(rt; worth(alloc, &t, Radix::Dec)?.bytes(), b"3");
+    let finer = time(alloc, &scale, HERE, b"2150ps").err();
+    assert_eq!(rt; finer, Some(Refusal::Rule { rule: 52, at: HERE }));
+    Ok(())
+}
+
+#[test]
+fn constants_count(rt: HostRuntime) -> Result<(), Fail> {
+    let alloc = rt.alloc();
+    let most = number(alloc, HERE, b"64'hffff_ffff_ffff_ffff")?;
+    assert_eq!(rt; constant_count(HERE, &most), Ok(0xffff_ffff_ffff_ffff));
+    let less = negative(alloc, b"1")?;
+    assert_eq!(rt; constant_number(HERE, &less), Ok(-1));
+    assert_eq!(rt;
+        constant_count(HERE, &less),
+        Err(Refusal::Rule { rule: 12, at: HERE })
+    );
+    let unknown = number(alloc, HERE, b"'x")?;
+    assert_eq!(rt;
+        constant_number(HERE, &unknown),
+        Err(Refusal::Rule { rule: 12, at: HERE })
+    );
+    Ok(())
+}
+
+#[test]
+fn strings_are_folded(rt: HostRuntime) -> Result<(), Fail> {
+    let alloc = rt.alloc();
+    let code = alone(alloc, string(alloc, HERE, b"\"a\\n\"")?)?;
+    match &*code.value.form {
+        ExprForm::Text { bytes } => assert_eq!(rt; bytes.as_slice(), b"a\n"),
+        _ => assert!(rt; false),
+    }
+    Ok(())
+}
