@@ -241,13 +241,12 @@ pub(crate) fn bit_of(
 // ---- parts between two ends
 
 /// A number as a literal of 64 bits.
-fn index_literal(number: i128) -> Result<Bits, Refusal>
-    ensures ok { IfOk result (λ x. x ≡ vector true (integer_symbols 64 number)) }
-    ensures err { IfErr result (λ e. e ≡ Memory) }
+fn index_literal(number: i128) -> Bits
+    ensures { result ≡ vector true (integer_symbols 64 number) }
 {
     match u64::try_from(number.rem_euclid(1 << 64)) {
-        Ok(word) => Ok(Bits::truncated(64, true, word, 0)),
-        Err(_) => Err(Refusal::Memory),
+        Ok(word) => Bits::truncated(64, true, word, 0),
+        Err(_) => unreachable!(),
     }
 }
 
@@ -256,7 +255,7 @@ fn number_typed(alloc: Global, at: Place, number: i128) -> Result<Typed, Refusal
     ensures ok { IfOk result (λ t. t ≡ selects.number_typed at number) }
     ensures err { IfErr result (λ e. e ≡ Memory) }
 {
-    let value = index_literal(number)?;
+    let value = index_literal(number);
     let value = expr_of(alloc, ExprForm::Literal { value, fill: None })?;
     let ty = plain_vector(64, true, false);
     Ok(value_typed(alloc, ty, at, true, pure(alloc, value)))
