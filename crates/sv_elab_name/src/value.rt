@@ -107,7 +107,8 @@ fn bare_call(
     _object: Option<Typed>,
     _is_direct: bool,
 ) -> Result<Typed, Refusal>
-    ensures { Gives result (things.bare_call (around_in _around.now) _place (calls.subroutine_called (around_in _around.now) _place true _callee.now _object _is_direct [])) }
+    ensures { Gives result (things.bare_call (around_in _around.now) _place
+        (calls.subroutine_called (around_in _around.now) _place true _callee.now _object _is_direct [])) }
 {
     Err(Refusal::Memory)
 }
@@ -120,7 +121,8 @@ pub(crate) fn bare_method(
     _method: Method,
     _object: Typed,
 ) -> Result<Typed, Refusal>
-    ensures { Gives result (things.bare_call (around_in _around.now) _place (calls.method_called (around_in _around.now) _place true (method_in _method) _object [])) }
+    ensures { Gives result (things.bare_call (around_in _around.now) _place
+        (calls.method_called (around_in _around.now) _place true (method_in _method) _object [])) }
 {
     Err(Refusal::Memory)
 }
@@ -145,7 +147,8 @@ pub(crate) fn bare_subroutine(
     is_direct: bool,
     at: Place,
 ) -> Result<Typed, Refusal>
-    ensures { Gives result (things.bare_subroutine (around_in around.now) place callee.now object is_direct at callee.now.class) }
+    ensures { Gives result
+        (things.bare_subroutine (around_in around.now) place callee.now object is_direct at callee.now.class) }
 {
     match &callee.class {
         Some(_) => bare_call(alloc, around, place, callee, object, is_direct),
@@ -166,7 +169,8 @@ pub fn thing_value(
     place: Place,
     thing: Result<Thing, Refusal>,
 ) -> Result<Typed, Refusal>
-    ensures { (x : checked thing_of) → GivesAs thing_in thing.entry x → Gives result (x ▷ things.thing_value (around_in around.now) place) }
+    ensures { (x : checked thing_of) → GivesAs thing_in thing.entry x
+        → Gives result (x ▷ things.thing_value (around_in around.now) place) }
 {
     match thing {
         Ok(thing) => thing.value(alloc, around, place),
