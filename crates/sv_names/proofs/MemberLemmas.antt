@@ -1,10 +1,9 @@
 -- What is found along a line of classes, from one class to the next.
-use Rattle.std.proofs.Common.{◌≡◌, ℕ, ◌+◌, ◌-◌, ◌<◌, List, [], ◌∷◌, length, Option, Some, None, option_map, map, Bor, sym, ap, ◌∙◌, arith}
+use Rattle.std.proofs.Common.{◌≡◌, ℕ, ◌-◌, ◌<◌, List, [], ◌∷◌, length, Option, Some, None, option_map, map, Bor, sym, ap, ◌∙◌, arith}
 use Rattle.std.proofs.lemmas.List.{length-map}
 use Rattle.sv_names.specs.declared.around.ClassInfo.{ClassInfo}
-use Rattle.sv_names.specs.declared.named.Callee.{Callee}
 use Rattle.sv_names.specs.Types.{Path}
-use Rattle.sv_names.specs.Named.{Found, class_in, line_of, declared_in, value_found, nearest, member_in, properties_before, of_bases, before_in_line}
+use Rattle.sv_names.specs.Named.{Found, class_in, line_of, declared_in, value_found, nearest, member_in}
 use Rattle.sv_names.specs.Lines.{base_in, up_from}
 use Rattle.sv_names.proofs.ClassLines.{line_is, up_none, up_some}
 

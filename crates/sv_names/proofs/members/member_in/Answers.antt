@@ -1,4 +1,4 @@
-use Rattle.std.proofs.Common.{ℕ, List, length, map, option_map, Bor, arith, refl, ◌-◌, ◌∙◌}
+use Rattle.std.proofs.Common.{List, map, option_map, Bor, arith, refl, ◌-◌, ◌∙◌}
 use Rattle.sv_names.specs.declared.around.ClassInfo.{ClassInfo}
 use Rattle.sv_names.specs.Named.{member_in}
 use Rattle.sv_names.specs.Lines.{base_in, up_from}

@@ -1,4 +1,4 @@
-use Rattle.std.proofs.Common.{ℕ, List, length, map, option_map, Bor, arith, ap, sym, refl, ◌-◌, ◌∙◌}
+use Rattle.std.proofs.Common.{List, map, option_map, Bor, arith, sym, refl, ◌-◌, ◌∙◌}
 use Rattle.sv_names.specs.declared.around.ClassInfo.{ClassInfo}
 use Rattle.sv_names.specs.Named.{method_in}
 use Rattle.sv_names.specs.Lines.{base_in, up_from}

@@ -1,7 +1,6 @@
-use Rattle.std.proofs.Common.{◌≡◌, ◌+◌, ℕ, List, length, map, option_map, Bor, arith, refl, ◌-◌, ◌∙◌, ap, sym}
+use Rattle.std.proofs.Common.{◌≡◌, List, map, option_map, Bor, arith, ap}
 use Rattle.sv_names.specs.declared.around.ClassInfo.{ClassInfo}
 use Rattle.sv_names.specs.Named.{of_bases, all_properties}
-use Rattle.sv_names.specs.Lines.{base_in, up_from}
 use Rattle.sv_names.proofs.MemberLemmas.{ended, out, onward}
 use Rattle.sv_names.proofs.members.of_bases.Goals as goal
 

@@ -1,7 +1,6 @@
-use Rattle.std.proofs.Common.{◌≡◌, ◌+◌, ℕ, List, length, map, option_map, arith, refl, ◌-◌, ◌∙◌, ap, sym}
+use Rattle.std.proofs.Common.{◌≡◌, ℕ, List, length, map, arith, ◌∙◌, ap}
 use Rattle.sv_names.specs.declared.around.ClassInfo.{ClassInfo}
-use Rattle.sv_names.specs.Named.{of_bases, properties_before, before_in_line}
-use Rattle.sv_names.specs.Lines.{base_in, up_from}
+use Rattle.sv_names.specs.Named.{properties_before, before_in_line}
 use Rattle.sv_names.proofs.MemberLemmas.{begun, onward}
 use Rattle.sv_names.proofs.members.place_in.Goals as goal
 
