@@ -26,7 +26,8 @@ fn constant_member<'a>(
     t: &Typed,
     is_parameter: bool,
 ) -> Result<Thing<'a>, Refusal>
-    ensures { (ar : around_of) (direct : Bool) → GivesAs thing_in result (things.member_thing ar at object direct (named.Constant t.now is_parameter)) }
+    ensures { (ar : around_of) (direct : Bool)
+        → GivesAs thing_in result (things.member_thing ar at object direct (named.Constant t.now is_parameter)) }
 {
     let t = constant_named(alloc, at, is_parameter, t)?;
     Ok(Thing::Value(after_object(object, t)))
@@ -42,7 +43,8 @@ pub fn member_thing<'a>(
     is_direct: bool,
     meaning: Meaning<'a>,
 ) -> Result<Thing<'a>, Refusal>
-    ensures { GivesAs thing_in result (things.member_thing (around_in around.now) at object is_direct (meaning_in meaning.entry)) }
+    ensures { GivesAs thing_in result
+        (things.member_thing (around_in around.now) at object is_direct (meaning_in meaning.entry)) }
 {
     let no_member = Refusal::Rule { rule: 7, at };
     match meaning.named {

@@ -21,7 +21,8 @@ fn this_named(
     place: u32,
     named: &Named,
 ) -> Result<Typed, Refusal>
-    ensures { Gives result (things.this_variable (around_in around.now) at (Some (Good (names.at_level up place named.now)))) }
+    ensures { Gives result
+        (things.this_variable (around_in around.now) at (Some (Good (names.at_level up place named.now)))) }
 {
     let missing = Refusal::Rule { rule: 39, at };
     match named {
@@ -47,7 +48,8 @@ fn this_named(
 
 /// E39: the variable that holds the object, where the declaration is one.
 fn this_found(alloc: Global, around: &Around, at: Place, found: Found) -> Result<Typed, Refusal>
-    ensures { Gives result (things.this_variable (around_in around.now) at (Some (names.value_found (found_in found.entry)))) }
+    ensures { Gives result
+        (things.this_variable (around_in around.now) at (Some (names.value_found (found_in found.entry)))) }
 {
     match &found.known.value {
         Checked::Good(named) => this_named(alloc, around, at, found.up, found.place, named),

@@ -4,6 +4,7 @@ ghost use Rattle.sv_value.specs.declared.place.Place.{Place as place_of};
 ghost use Rattle.sv_names.specs.declared.checked.Checked.{Checked as checked};
 ghost use Rattle.sv_names.specs.declared.checked.Checked.TheVariants.{Good};
 ghost use Rattle.sv_names.specs.declared.refusal.Refusal.TheVariants.{Memory};
+ghost use Rattle.sv_names.specs.declared.method.Called.{Called as called_of};
 ghost use Rattle.sv_names.specs.declared.typed.Typed.{Typed as typed};
 ghost use Rattle.sv_names.specs.Calls as calls;
 ghost use Rattle.sv_names.specs.Checked.{◌▷◌, broken_at};
@@ -16,8 +17,9 @@ ghost use Rattle.sv_elab_name.specs.Things.{thing_in};
 
 use crate::{Thing, lasts, object_typed};
 use std::alloc::Global;
-use sv_names::{Around, Begin, Callee, Checked, Method, Refusal, SignalInfo, Ty, Typed, copy_path};
-use sv_value::{Place, Text};
+use sv_elab_call::{as_value, method_called, subroutine_called};
+use sv_names::{Called, Around, Begin, Callee, Checked, Method, Refusal, SignalInfo, Ty, Typed, copy_path};
+use sv_value::{Place, Seq, Text};
 
 // ---- signals
 
@@ -97,31 +99,55 @@ pub(crate) fn result_value(around: &Around, at: Place, variable: Typed) -> Resul
 
 // ---- calls without brackets
 
-/// A call of a subroutine without brackets. It is not written yet.
-fn bare_call(
-    _alloc: Global,
-    _around: &Around,
-    _place: Place,
-    _callee: &Callee,
-    _object: Option<Typed>,
-    _is_direct: bool,
+/// What a call without brackets gives.
+fn given_by(
+    alloc: Global,
+    around: &Around,
+    place: Place,
+    c: Result<Called, Refusal>,
 ) -> Result<Typed, Refusal>
-    ensures { Gives result (things.bare_call (around_in _around.now) _place (calls.subroutine_called (around_in _around.now) _place true _callee.now _object _is_direct [])) }
+    ensures { (x : checked called_of) → Gives c x → Gives result (things.bare_call (around_in around.now) place x) }
 {
-    Err(Refusal::Memory)
+    match c {
+        Ok(c) => {
+            let t = as_value(alloc, around, place, c)?;
+            Ok(t)
+        }
+        Err(e) => Err(e),
+    }
 }
 
-/// A call of a method of the language without brackets. It is not written yet.
-pub(crate) fn bare_method(
-    _alloc: Global,
-    _around: &Around,
-    _place: Place,
-    _method: Method,
-    _object: Typed,
+/// A call of a subroutine without brackets.
+fn bare_call(
+    alloc: Global,
+    around: &Around,
+    place: Place,
+    callee: &Callee,
+    object: Option<Typed>,
+    is_direct: bool,
 ) -> Result<Typed, Refusal>
-    ensures { Gives result (things.bare_call (around_in _around.now) _place (calls.method_called (around_in _around.now) _place true _method _object [])) }
+    ensures { Gives result (things.bare_call (around_in around.now) place
+        (calls.subroutine_called (around_in around.now) place true callee.now object is_direct [])) }
 {
-    Err(Refusal::Memory)
+    let nothing = Seq::new(alloc);
+    let c = subroutine_called(alloc, around, place, true, callee, object, is_direct, nothing);
+    given_by(alloc, around, place, c)
+}
+
+/// A call of a method of the language without brackets.
+pub(crate) fn bare_method(
+    alloc: Global,
+    around: &Around,
+    place: Place,
+    method: Method,
+    object: Typed,
+) -> Result<Typed, Refusal>
+    ensures { Gives result (things.bare_call (around_in around.now) place
+        (calls.method_called (around_in around.now) place true method object [])) }
+{
+    let nothing = Seq::new(alloc);
+    let c = method_called(alloc, around, place, true, method, object, nothing);
+    given_by(alloc, around, place, c)
 }
 
 /// Whether it is a task or a void function.
@@ -144,7 +170,8 @@ pub(crate) fn bare_subroutine(
     is_direct: bool,
     at: Place,
 ) -> Result<Typed, Refusal>
-    ensures { Gives result (things.bare_subroutine (around_in around.now) place callee.now object is_direct at callee.now.class) }
+    ensures { Gives result
+        (things.bare_subroutine (around_in around.now) place callee.now object is_direct at callee.now.class) }
 {
     match &callee.class {
         Some(_) => bare_call(alloc, around, place, callee, object, is_direct),
@@ -165,7 +192,8 @@ pub fn thing_value(
     place: Place,
     thing: Result<Thing, Refusal>,
 ) -> Result<Typed, Refusal>
-    ensures { (x : checked thing_of) → GivesAs thing_in thing.entry x → Gives result (x ▷ things.thing_value (around_in around.now) place) }
+    ensures { (x : checked thing_of) → GivesAs thing_in thing.entry x
+        → Gives result (x ▷ things.thing_value (around_in around.now) place) }
 {
     match thing {
         Ok(thing) => thing.value(alloc, around, place),

@@ -12,7 +12,7 @@ use std::alloc::Global;
 use sv_elab_value::{code_of, expr_of, paired, pure, value_typed};
 use sv_flat::{Expr, ExprForm, Lvalue};
 use sv_names::{
-    Around, Hoisted, Refusal, Ty, Typed, copy_base, copy_part, copy_through, plain_vector,
+    Around, Hoisted, Refusal, Ty, Typed, copy_base, copy_part, copy_optional, plain_vector,
 };
 use sv_value::{Place, Seq};
 
@@ -23,7 +23,7 @@ fn lvalue_value(alloc: Global, around: &Around, t: &Typed) -> Result<Lvalue, Ref
     ensures ok { IfOk result (λ l. l ≡ parts.lvalue_value (around_in around.now) t.now) }
     ensures err { IfErr result (λ e. e ≡ Memory) }
 {
-    let through = copy_through(alloc, &t.target.through)?;
+    let through = copy_optional(alloc, &t.target.through)?;
     let base = copy_base(alloc, &t.target.base)?;
     let part = copy_part(alloc, &t.target.part)?;
     let ty = around.numbers.data_of(&t.target.whole);

@@ -2,9 +2,8 @@
 ghost use Rattle.std.specs.Prelude.{◌≡◌, IfOk};
 ghost use Rattle.sv_flat.specs.ExprView.{of_form};
 
-use crate::Hoisted;
 use std::alloc::Global;
-use sv_flat::{Call, DataType, Expr, ExprForm, NamedItem};
+use sv_flat::{Expr, ExprForm, NamedItem};
 use sv_value::{NoMemory, Seq};
 
 /// The expression of a form.
@@ -307,37 +306,15 @@ pub fn copy_expr(alloc: Global, e: &Expr) -> Result<Expr, NoMemory>
     }
 }
 
-/// The same types of hidden variables, in memory of their own.
-fn copy_hidden(alloc: Global, hidden: &[DataType]) -> Result<Seq<DataType>, NoMemory>
-    ensures { IfOk result (λ ts. ts ≡ hidden.now) }
+/// The same expression, where there is one, in memory of its own.
+pub fn copy_optional(alloc: Global, e: &Option<Expr>) -> Result<Option<Expr>, NoMemory>
+    ensures { IfOk result (λ o. o ≡ e.now) }
 {
-    let mut copy = Seq::new(alloc);
-    for ty in hidden {
-        copy.push(*ty)?;
+    match e {
+        None => Ok(None),
+        Some(e) => {
+            let e = copy_expr(alloc, e)?;
+            Ok(Some(e))
+        }
     }
-    Ok(copy)
-}
-
-/// The same calls, in memory of their own. Calls of which there is one at least are not copied yet.
-fn copy_calls(alloc: Global, calls: &[Call]) -> Result<Seq<Call>, NoMemory>
-    ensures { IfOk result (λ cs. cs ≡ calls.now) }
-{
-    match calls {
-        [] => Ok(Seq::new(alloc)),
-        [_, ..] => Err(NoMemory::Memory),
-    }
-}
-
-/// The same part of a statement, in memory of its own. A constant has no calls; what has some is not copied yet.
-pub fn copy_code(alloc: Global, code: &Hoisted<Expr>) -> Result<Hoisted<Expr>, NoMemory>
-    ensures { IfOk result (λ c. c ≡ code.now) }
-{
-    let hidden = copy_hidden(alloc, code.hidden.as_slice())?;
-    let calls = copy_calls(alloc, code.calls.as_slice())?;
-    let value = copy_expr(alloc, &code.value)?;
-    Ok(Hoisted {
-        hidden,
-        calls,
-        value,
-    })
 }

@@ -137,7 +137,8 @@ fn all_properties(known: &[Known]) -> u32
 
 /// How many variables of an object the properties of a class and of its bases take, and no more than so many classes.
 fn of_bases<'a>(classes: &[&'a ClassInfo], mut left: usize, class: Option<&'a ClassInfo>) -> u32
-    ensures { result ≡ min (names.of_bases (lines.up_from left (map (λ k. k.now) classes.now) (option_map (λ k. k.now) class.entry))) (2 ^ 32 - 1) }
+    ensures { result ≡ min (names.of_bases
+        (lines.up_from left (map (λ k. k.now) classes.now) (option_map (λ k. k.now) class.entry))) (2 ^ 32 - 1) }
 {
     let mut size: u32 = 0;
     let mut next = class;

@@ -1,9 +1,10 @@
 // Targets and typed expressions in memory of their own. The time is linear in their size.
 ghost use Rattle.std.specs.Prelude.{◌≡◌, IfOk};
 
+use crate::copies::copy_optional;
 use crate::{Begin, Target, Typed, copy_code, copy_expr, copy_path};
 use std::alloc::Global;
-use sv_flat::{Base, Container, Expr, Part};
+use sv_flat::{Base, Container, Part};
 use sv_value::{NoMemory, Place, Seq};
 
 /// The same bits of a target.
@@ -25,7 +26,7 @@ pub fn copy_part(alloc: Global, part: &Option<Part>) -> Result<Option<Part>, NoM
 }
 
 /// The same container.
-fn copy_container(alloc: Global, container: &Container) -> Result<Container, NoMemory>
+pub(crate) fn copy_container(alloc: Global, container: &Container) -> Result<Container, NoMemory>
     ensures { IfOk result (λ c. c ≡ container.now) }
 {
     let holder = copy_expr(alloc, &container.holder)?;
@@ -135,19 +136,6 @@ fn copy_begin(alloc: Global, begins: &Begin) -> Result<Begin, NoMemory>
     }
 }
 
-/// The same reference, where there is one, in memory of its own.
-pub fn copy_through(alloc: Global, through: &Option<Expr>) -> Result<Option<Expr>, NoMemory>
-    ensures { IfOk result (λ o. o ≡ through.now) }
-{
-    match through {
-        None => Ok(None),
-        Some(reference) => {
-            let reference = copy_expr(alloc, reference)?;
-            Ok(Some(reference))
-        }
-    }
-}
-
 /// The same places, in memory of their own.
 fn copy_places(alloc: Global, places: &[Place]) -> Result<Seq<Place>, NoMemory>
     ensures { IfOk result (λ ps. ps ≡ places.now) }
@@ -164,7 +152,7 @@ pub fn copy_target(alloc: Global, target: &Target) -> Result<Target, NoMemory>
     ensures { IfOk result (λ t. t ≡ target.now) }
 {
     let begins = copy_begin(alloc, &target.begins)?;
-    let through = copy_through(alloc, &target.through)?;
+    let through = copy_optional(alloc, &target.through)?;
     let base = copy_base(alloc, &target.base)?;
     let part = copy_part(alloc, &target.part)?;
     let whole = target.whole.copy(alloc)?;
@@ -180,7 +168,7 @@ pub fn copy_target(alloc: Global, target: &Target) -> Result<Target, NoMemory>
     })
 }
 
-/// The same expression with its type, in memory of its own. What has calls is not copied yet; constants have none.
+/// The same expression with its type, in memory of its own.
 pub fn copy_typed(alloc: Global, t: &Typed) -> Result<Typed, NoMemory>
     ensures { IfOk result (λ c. c ≡ t.now) }
 {
