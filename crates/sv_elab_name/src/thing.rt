@@ -12,7 +12,9 @@ use crate::{signal_named, signal_read, value_member};
 use std::alloc::Global;
 use sv_elab_call::{method_called, subroutine_called};
 use sv_elab_value::values_stand;
-use sv_names::{Arg, Around, Called, Callee, Checked, Method, Refusal, SignalInfo, Ty, Typed, where_also};
+use sv_names::{
+    Arg, Around, Called, Callee, Checked, Method, Refusal, SignalInfo, Ty, Typed, where_also,
+};
 use sv_tree::Name;
 use sv_value::{Place, Seq, Text};
 
@@ -273,7 +275,9 @@ impl<'a> Thing<'a> {
                 object,
                 is_direct,
                 at: _,
-            } => subroutine_called(alloc, around, place, is_value, callee, object, is_direct, args),
+            } => subroutine_called(
+                alloc, around, place, is_value, callee, object, is_direct, args,
+            ),
             Thing::Method {
                 method,
                 object,

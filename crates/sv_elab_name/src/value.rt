@@ -18,7 +18,9 @@ ghost use Rattle.sv_elab_name.specs.Things.{thing_in};
 use crate::{Thing, lasts, object_typed};
 use std::alloc::Global;
 use sv_elab_call::{as_value, method_called, subroutine_called};
-use sv_names::{Called, Around, Begin, Callee, Checked, Method, Refusal, SignalInfo, Ty, Typed, copy_path};
+use sv_names::{
+    Around, Begin, Called, Callee, Checked, Method, Refusal, SignalInfo, Ty, Typed, copy_path,
+};
 use sv_value::{Place, Seq, Text};
 
 // ---- signals
@@ -130,7 +132,9 @@ fn bare_call(
         (calls.subroutine_called (around_in around.now) place true callee.now object is_direct [])) }
 {
     let nothing = Seq::new(alloc);
-    let c = subroutine_called(alloc, around, place, true, callee, object, is_direct, nothing);
+    let c = subroutine_called(
+        alloc, around, place, true, callee, object, is_direct, nothing,
+    );
     given_by(alloc, around, place, c)
 }
 

@@ -12,7 +12,7 @@ use std::alloc::Global;
 use sv_elab_value::{code_of, expr_of, paired, pure, value_typed};
 use sv_flat::{Expr, ExprForm, Lvalue};
 use sv_names::{
-    Around, Hoisted, Refusal, Ty, Typed, copy_base, copy_part, copy_optional, plain_vector,
+    Around, Hoisted, Refusal, Ty, Typed, copy_base, copy_optional, copy_part, plain_vector,
 };
 use sv_value::{Place, Seq};
 

@@ -84,18 +84,10 @@ pub struct Method {
 }
 
 /// What a call is.
+#[derive(Drop)]
 pub enum Called {
     /// A call, with the type of what it gives.
     Call(Hoisted<CallForm>, Ty),
     /// An operator.
     Operator(Typed),
-}
-
-impl Drop for Called {
-    fn drop(self) {
-        match self {
-            Called::Call(_, _) => {}
-            Called::Operator(_) => {}
-        }
-    }
 }
