@@ -18,6 +18,11 @@ const HERE: Place = Place {
     col: 1,
 };
 
+/// Two texts are one.
+fn same<R: Abort>(rt: &R, got: &[u8], wanted: &[u8]) {
+    assert_eq!(rt; got, wanted);
+}
+
 /// What a constant is worth, in a base.
 fn worth(alloc: Global, t: &Typed, radix: Radix) -> Result<Text, Fail> {
     let bits = bits_of(&t.code.value)?;
@@ -46,7 +51,7 @@ fn gives<R: Abort>(
 ) -> Result<(), Fail> {
     let t = binary(alloc, &[], op, HERE, HERE, HERE, a, b)?;
     let text = worth(alloc, &t, Radix::Dec)?;
-    assert_eq!(rt; text.bytes(), wanted);
+    same(rt, text.bytes(), wanted);
     Ok(())
 }
 
@@ -122,9 +127,9 @@ fn chosen(alloc: Global, condition: &[u8]) -> Result<Text, Fail> {
 #[test]
 fn a_condition_chooses(rt: HostRuntime) -> Result<(), Fail> {
     let alloc = rt.alloc();
-    assert_eq!(rt; chosen(alloc, b"1'b1")?.bytes(), b"3");
-    assert_eq!(rt; chosen(alloc, b"1'b0")?.bytes(), b"5");
-    assert_eq!(rt; chosen(alloc, b"1'bx")?.bytes(), b"X");
+    same(&rt, chosen(alloc, b"1'b1")?.bytes(), b"3");
+    same(&rt, chosen(alloc, b"1'b0")?.bytes(), b"5");
+    same(&rt, chosen(alloc, b"1'bx")?.bytes(), b"X");
     Ok(())
 }
 
@@ -144,9 +149,9 @@ fn pair(alloc: Global) -> Result<Typed, Refusal> {
 fn parts_are_joined(rt: HostRuntime) -> Result<(), Fail> {
     let alloc = rt.alloc();
     let t = pair(alloc)?;
-    assert_eq!(rt; worth(alloc, &t, Radix::Bin)?.bytes(), b"100110");
+    same(&rt, worth(alloc, &t, Radix::Bin)?.bytes(), b"100110");
     let t = repeat(alloc, HERE, Ok(2), pair(alloc))?;
-    assert_eq!(rt; worth(alloc, &t, Radix::Bin)?.bytes(), b"100110100110");
+    same(&rt, worth(alloc, &t, Radix::Bin)?.bytes(), b"100110100110");
     let wide = repeat(alloc, HERE, Ok(11), pair(alloc)).err();
     assert_eq!(rt; wide, Some(Refusal::Rule { rule: 13, at: HERE }));
     let wide = repeat(alloc, HERE, Ok(1 << 63), pair(alloc)).err();
@@ -159,7 +164,7 @@ fn parts_are_joined(rt: HostRuntime) -> Result<(), Fail> {
 fn casts_keep_the_sign(rt: HostRuntime) -> Result<(), Fail> {
     let alloc = rt.alloc();
     let t = sized(alloc, HERE, HERE, 8, number(alloc, HERE, b"4'sb1000")?)?;
-    assert_eq!(rt; worth(alloc, &t, Radix::Dec)?.bytes(), b"-8");
+    same(&rt, worth(alloc, &t, Radix::Dec)?.bytes(), b"-8");
     let wide = sized(alloc, HERE, HERE, 65, number(alloc, HERE, b"1")?).err();
     assert_eq!(rt; wide, Some(Refusal::Rule { rule: 13, at: HERE }));
     Ok(())
@@ -174,9 +179,9 @@ fn times_are_whole(rt: HostRuntime) -> Result<(), Fail> {
         precision: 5,
     };
     let t = time(alloc, &scale, HERE, b"2100ps")?;
-    assert_eq!(rt; worth(alloc, &t, Radix::Dec)?.bytes(), b"2");
+    same(&rt, worth(alloc, &t, Radix::Dec)?.bytes(), b"2");
     let t = time(alloc, &scale, HERE, b"2500ps")?;
-    assert_eq!(rt; worth(alloc, &t, Radix::Dec)?.bytes(), b"3");
+    same(&rt, worth(alloc, &t, Radix::Dec)?.bytes(), b"3");
     let finer = time(alloc, &scale, HERE, b"2150ps").err();
     assert_eq!(rt; finer, Some(Refusal::Rule { rule: 52, at: HERE }));
     Ok(())
@@ -206,7 +211,7 @@ fn strings_are_folded(rt: HostRuntime) -> Result<(), Fail> {
     let alloc = rt.alloc();
     let code = alone(alloc, string(alloc, HERE, b"\"a\\n\"")?)?;
     match &*code.value.form {
-        ExprForm::Text { bytes } => assert_eq!(rt; bytes.as_slice(), b"a\n"),
+        ExprForm::Text { bytes } => same(&rt, bytes.as_slice(), b"a\n"),
         _ => assert!(rt; false),
     }
     Ok(())
