@@ -12,7 +12,6 @@ use crate::joins::{joined, repeated, select};
 use crate::operators::{binary_inside, compared, decides, truth_of_both};
 use crate::{Stopped, Values};
 use std::alloc::Global;
-use sv_arith::any_one;
 use sv_flat::{Bounds, Context, Expr, ExprForm, Operands, is_in_context, operands_of};
 use sv_value::{BinOp, Bits, FaultKind, NoMemory, ObjId, Plain, Sym, Val};
 
