@@ -1,7 +1,9 @@
 -- What is judged before it is made.
-use Rattle.std.proofs.Common.{◌≡◌, ℕ, ◌+◌, Bool, true, false, not, ℤ, pos, refl, ap, sym, ◌∙◌, subst}
-use Rattle.std.specs.Prelude.{◌-ℤ◌, ◌+ℤ◌, nat_abs, Result, if◌then◌else◌}
+use Rattle.std.proofs.Common.{◌≡◌, ℕ, ◌+◌, Bool, true, false, not, ℤ, pos, refl, ap, sym, ◌∙◌, subst, ◌<◌, ◌≤◌, arith}
+use Rattle.std.specs.Prelude.{nat_lt, ◌-ℤ◌, ◌+ℤ◌, nat_abs, Result, if◌then◌else◌}
+use Rattle.std.proofs.lemmas.Bool.Decides.{nat_tests}
 use Rattle.sv_value.specs.declared.place.Place.{Place}
+use Rattle.sv_value.specs.Vector.{widest}
 use Rattle.sv_flat.specs.declared.object.Bounds.{Bounds}
 use Rattle.sv_tree.specs.declared.word.PartWord.{PartWord}
 use Rattle.sv_names.specs.declared.checked.Checked.{Checked}
@@ -9,9 +11,10 @@ use Rattle.sv_names.specs.declared.checked.Checked.TheVariants.{Good, Broken}
 use Rattle.sv_names.specs.declared.refusal.Refusal.{Refusal}
 use Rattle.sv_names.specs.declared.refusal.Refusal.TheVariants.{Rule, Memory}
 use Rattle.sv_names.specs.declared.typed.Typed.{Typed}
-use Rattle.sv_names.specs.Checked.{both, ◌▷◌, broken_at, ◌where_also◌}
+use Rattle.sv_names.specs.Checked.{both, ◌▷◌, broken_at, rule, ◌where_also◌}
 use Rattle.sv_names.specs.Given.{Fails, Gives}
 use Rattle.sv_names.specs.Types.{is_array}
+use Rattle.sv_names.specs.Values.{not_too_wide}
 use Rattle.sv_names.specs.Selects.{is_descending, selected, selected_at, fixed_part, number_typed, part_of, part_select_of}
 use Rattle.sv_elab_select.specs.Parts.{offset_from, ends_stand}
 
@@ -45,6 +48,26 @@ first_fails Memory x r c is h = tt
 
 pub then_made : {A : Type 0} (x : A) (r : Checked (Unit {0})) (c : Checked A) → c ≡ r ▷ (λ _. Good x) → r ≡ Good tt → c ≡ Good x
 then_made x r c is h = is ∙ ap (λ (s : Checked (Unit {0})). s ▷ (λ _. Good x)) h
+
+-- ---- widths
+
+not_broken : (b : Bool) (n : ℕ) (at : Place) → rule n at b ≡ Good tt → b ≡ false
+not_broken true n at h = cc
+not_broken false n at h = refl
+
+-- what is judged is no wider than a vector
+narrow : (at : Place) (w : ℕ) → not_too_wide at w ≡ Good tt → w ≤ widest
+narrow at w h = let e : nat_lt widest w ≡ false = not_broken (nat_lt widest w) 13 at h in grind (arith, nat_tests)
+
+both_kept : (r s : Checked (Unit {0})) → (r where_also s) ≡ Good tt → s ≡ Good tt
+both_kept (Good u) (Good v) h = refl
+both_kept (Good u) (Broken g) h = cc
+both_kept (Broken f) (Good v) h = refl
+both_kept (Broken f) (Broken g) h = cc
+
+pub ends_near : (at pe : Place) (b : Bounds) (l r : ℤ) → ends_stand at pe b l r ≡ Good tt → nat_abs (l -ℤ r) < widest
+ends_near at pe b l r h =
+    let near : nat_abs (l -ℤ r) + 1 ≤ widest = narrow pe (nat_abs (l -ℤ r) + 1) (both_kept _ _ h) in omega (arith, near)
 
 -- ---- selects
 

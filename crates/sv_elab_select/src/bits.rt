@@ -1,6 +1,6 @@
 // Selects of bits and parts (IEEE 1800-2017, 11.5.1): E12 to E14, E42.
-ghost use Rattle.std.specs.Prelude.{◌≡◌, ◌+◌, true, ℤ, pos, ◌-ℤ◌, int_lt, nat_abs, List, IfOk, IfErr, OnOk, if◌then◌else◌, ◌∷◌};
-ghost use Rattle.sv_value.specs.Vector.{vector};
+ghost use Rattle.std.specs.Prelude.{◌≡◌, ◌+◌, ◌<◌, ◌≤◌, true, ℤ, pos, ◌-ℤ◌, int_lt, nat_abs, List, IfOk, IfErr, OnOk, if◌then◌else◌, ◌∷◌};
+ghost use Rattle.sv_value.specs.Vector.{vector, widest};
 ghost use Rattle.sv_value.specs.Operators.{integer_symbols};
 ghost use Rattle.sv_flat.specs.Expr as flat;
 ghost use Rattle.sv_tree.specs.declared.word.PartWord.TheVariants as word_of;
@@ -241,13 +241,12 @@ pub(crate) fn bit_of(
 // ---- parts between two ends
 
 /// A number as a literal of 64 bits.
-fn index_literal(number: i128) -> Result<Bits, Refusal>
-    ensures ok { IfOk result (λ x. x ≡ vector true (integer_symbols 64 number)) }
-    ensures err { IfErr result (λ e. e ≡ Memory) }
+fn index_literal(number: i128) -> Bits
+    ensures { result ≡ vector true (integer_symbols 64 number) }
 {
     match u64::try_from(number.rem_euclid(1 << 64)) {
-        Ok(word) => Ok(Bits::truncated(64, true, word, 0)),
-        Err(_) => Err(Refusal::Memory),
+        Ok(word) => Bits::truncated(64, true, word, 0),
+        Err(_) => unreachable!(),
     }
 }
 
@@ -256,7 +255,7 @@ fn number_typed(alloc: Global, at: Place, number: i128) -> Result<Typed, Refusal
     ensures ok { IfOk result (λ t. t ≡ selects.number_typed at number) }
     ensures err { IfErr result (λ e. e ≡ Memory) }
 {
-    let value = index_literal(number)?;
+    let value = index_literal(number);
     let value = expr_of(alloc, ExprForm::Literal { value, fill: None })?;
     let ty = plain_vector(64, true, false);
     Ok(value_typed(alloc, ty, at, true, pure(alloc, value)))
@@ -289,16 +288,13 @@ fn ends_stand(at: Place, whole: Place, bounds: Bounds, l: i128, r: i128) -> Resu
 }
 
 /// How many bits stand between two ends, which were judged before.
-fn width_between(l: i128, r: i128) -> Result<u32, Refusal>
-    ensures ok { IfOk result (λ w. w ≡ nat_abs (l -ℤ r) + 1) }
-    ensures err { IfErr result (λ e. e ≡ Memory) }
+fn width_between(l: i128, r: i128) -> u32
+    requires { nat_abs (l -ℤ r) < widest }
+    ensures { result ≡ nat_abs (l -ℤ r) + 1 }
 {
-    let Ok(distance) = u32::try_from(l.abs_diff(r)) else {
-        return Err(Refusal::Memory);
-    };
-    match distance.checked_add(1) {
-        Some(width) => Ok(width),
-        None => Err(Refusal::Memory),
+    match u32::try_from(l.abs_diff(r)) {
+        Ok(distance) => distance + 1,
+        Err(_) => unreachable!(),
     }
 }
 
@@ -311,9 +307,10 @@ fn part_between(
     l: i128,
     r: i128,
 ) -> Result<Typed, Refusal>
+    requires { nat_abs (l -ℤ r) < widest }
     ensures { Gives result (Good (selects.selected (nat_abs (l -ℤ r) + 1) (pos 0) at bounds a (selects.number_typed at r))) }
 {
-    let width = width_between(l, r)?;
+    let width = width_between(l, r);
     let index = number_typed(alloc, at, r)?;
     selected(alloc, width, 0, at, bounds, a, index)
 }
@@ -400,10 +397,11 @@ fn part_at(
     i: Typed,
     width: u64,
 ) -> Result<Typed, Refusal>
+    requires { width ≤ widest }
     ensures { Gives result (Good (selects.selected width (selects.lowest_back word bounds width) at bounds a i)) }
 {
     let Ok(width) = u32::try_from(width) else {
-        return Err(Refusal::Memory);
+        unreachable!()
     };
     let back = lowest_back(word, bounds, width);
     selected(alloc, width, back, at, bounds, a, i)

@@ -1,6 +1,7 @@
 // Expressions and targets once more, each in memory of its own.
 ghost use Rattle.std.specs.Prelude.{◌≡◌, IfOk};
 ghost use Rattle.sv_flat.specs.ExprView.{of_form};
+ghost use Rattle.sv_elab_select.specs.Forms.{IsPlain, IsPlace, IsOperation, IsAsked};
 
 use std::alloc::Global;
 use sv_flat::{Base, Container, Expr, ExprForm, NamedItem, Part};
@@ -30,34 +31,89 @@ fn copy_items(alloc: Global, items: &[NamedItem]) -> Result<Seq<NamedItem>, NoMe
 }
 
 /// The same expression, in memory of its own; the time is linear in its size.
+#[cycle(copies)]
 pub fn copy_expr(alloc: Global, e: &Expr) -> Result<Expr, NoMemory>
     ensures { IfOk result (λ c. c ≡ e.now) }
 {
-    match &*e.form {
-        ExprForm::Literal { value, fill } => {
-            expr_of(
-                alloc,
-                ExprForm::Literal {
-                    value: *value,
-                    fill: *fill,
-                },
-            )
-        }
+    let form: &ExprForm = &e.form;
+    match form {
+        ExprForm::Literal { .. } => copy_plain(alloc, form),
+        ExprForm::Text { .. } => copy_plain(alloc, form),
+        ExprForm::Handle { .. } => copy_plain(alloc, form),
+        ExprForm::Object { .. } => copy_plain(alloc, form),
+        ExprForm::Local { .. } => copy_plain(alloc, form),
+        ExprForm::Time { .. } => copy_plain(alloc, form),
+        ExprForm::Element { .. } => copy_place(alloc, form),
+        ExprForm::LocalElement { .. } => copy_place(alloc, form),
+        ExprForm::Field { .. } => copy_place(alloc, form),
+        ExprForm::FieldElement { .. } => copy_place(alloc, form),
+        ExprForm::Static { .. } => copy_place(alloc, form),
+        ExprForm::Item { .. } => copy_place(alloc, form),
+        ExprForm::Unary { .. } => copy_operation(alloc, form),
+        ExprForm::Repeat { .. } => copy_operation(alloc, form),
+        ExprForm::Convert { .. } => copy_operation(alloc, form),
+        ExprForm::Widen { .. } => copy_operation(alloc, form),
+        ExprForm::Select { .. } => copy_operation(alloc, form),
+        ExprForm::Binary { .. } => copy_operation(alloc, form),
+        ExprForm::Choose { .. } => copy_operation(alloc, form),
+        ExprForm::Join { .. } => copy_operation(alloc, form),
+        ExprForm::Size { .. } => copy_asked(alloc, form),
+        ExprForm::Messages { .. } => copy_asked(alloc, form),
+        ExprForm::Length { .. } => copy_asked(alloc, form),
+        ExprForm::Triggered { .. } => copy_asked(alloc, form),
+        ExprForm::Log2 { .. } => copy_asked(alloc, form),
+        ExprForm::Name { .. } => copy_asked(alloc, form),
+        ExprForm::Printed { .. } => copy_asked(alloc, form),
+        ExprForm::Exists { .. } => copy_asked(alloc, form),
+    }
+}
+
+/// Copies a form without parts.
+fn copy_plain(alloc: Global, form: &ExprForm) -> Result<Expr, NoMemory>
+    requires { IsPlain form.now }
+    ensures { IfOk result (λ c. c ≡ of_form form.now) }
+{
+    match form {
+        ExprForm::Literal { value, fill } => expr_of(
+            alloc,
+            ExprForm::Literal {
+                value: *value,
+                fill: *fill,
+            },
+        ),
         ExprForm::Text { bytes } => {
             let bytes = bytes.copy(alloc)?;
             expr_of(alloc, ExprForm::Text { bytes })
         }
-        ExprForm::Handle { key } => { expr_of(alloc, ExprForm::Handle { key: *key }) }
-        ExprForm::Object { at, object, ty } => {
-            expr_of(
-                alloc,
-                ExprForm::Object {
-                    at: *at,
-                    object: *object,
-                    ty: *ty,
-                },
-            )
-        }
+        ExprForm::Handle { key } => expr_of(alloc, ExprForm::Handle { key: *key }),
+        ExprForm::Object { at, object, ty } => expr_of(
+            alloc,
+            ExprForm::Object {
+                at: *at,
+                object: *object,
+                ty: *ty,
+            },
+        ),
+        ExprForm::Local { up, place, ty } => expr_of(
+            alloc,
+            ExprForm::Local {
+                up: *up,
+                place: *place,
+                ty: *ty,
+            },
+        ),
+        ExprForm::Time { at } => expr_of(alloc, ExprForm::Time { at: *at }),
+        _ => unreachable!(),
+    }
+}
+
+/// Copies a form that names an element, a property, an item or a static member.
+#[cycle(copies)]
+fn copy_place(alloc: Global, form: &ExprForm) -> Result<Expr, NoMemory>
+    requires { IsPlace form.now }
+    ensures { IfOk result (λ c. c ≡ of_form form.now) }
+{
+    match form {
         ExprForm::Element {
             at,
             object,
@@ -74,16 +130,6 @@ pub fn copy_expr(alloc: Global, e: &Expr) -> Result<Expr, NoMemory>
                     bounds: *bounds,
                     ty: *ty,
                     index,
-                },
-            )
-        }
-        ExprForm::Local { up, place, ty } => {
-            expr_of(
-                alloc,
-                ExprForm::Local {
-                    up: *up,
-                    place: *place,
-                    ty: *ty,
                 },
             )
         }
@@ -160,54 +206,20 @@ pub fn copy_expr(alloc: Global, e: &Expr) -> Result<Expr, NoMemory>
                 },
             )
         }
-        ExprForm::Select {
-            width,
-            offset,
-            is_falling,
-            outside,
-            base,
-            index,
-        } => {
-            let base = copy_expr(alloc, base)?;
-            let index = copy_expr(alloc, index)?;
-            expr_of(
-                alloc,
-                ExprForm::Select {
-                    width: *width,
-                    offset: *offset,
-                    is_falling: *is_falling,
-                    outside: *outside,
-                    base,
-                    index,
-                },
-            )
-        }
+        _ => unreachable!(),
+    }
+}
+
+/// Copies an operation.
+#[cycle(copies)]
+fn copy_operation(alloc: Global, form: &ExprForm) -> Result<Expr, NoMemory>
+    requires { IsOperation form.now }
+    ensures { IfOk result (λ c. c ≡ of_form form.now) }
+{
+    match form {
         ExprForm::Unary { op, operand } => {
             let operand = copy_expr(alloc, operand)?;
             expr_of(alloc, ExprForm::Unary { op: *op, operand })
-        }
-        ExprForm::Binary { op, left, right } => {
-            let left = copy_expr(alloc, left)?;
-            let right = copy_expr(alloc, right)?;
-            expr_of(
-                alloc,
-                ExprForm::Binary {
-                    op: *op,
-                    left,
-                    right,
-                },
-            )
-        }
-        ExprForm::Choose { condition, yes, no } => {
-            let condition = copy_expr(alloc, condition)?;
-            let yes = copy_expr(alloc, yes)?;
-            let no = copy_expr(alloc, no)?;
-            expr_of(alloc, ExprForm::Choose { condition, yes, no })
-        }
-        ExprForm::Join { high, low } => {
-            let high = copy_expr(alloc, high)?;
-            let low = copy_expr(alloc, low)?;
-            expr_of(alloc, ExprForm::Join { high, low })
         }
         ExprForm::Repeat { count, part } => {
             let part = copy_expr(alloc, part)?;
@@ -238,7 +250,62 @@ pub fn copy_expr(alloc: Global, e: &Expr) -> Result<Expr, NoMemory>
                 },
             )
         }
-        ExprForm::Time { at } => { expr_of(alloc, ExprForm::Time { at: *at }) }
+        ExprForm::Select {
+            width,
+            offset,
+            is_falling,
+            outside,
+            base,
+            index,
+        } => {
+            let base = copy_expr(alloc, base)?;
+            let index = copy_expr(alloc, index)?;
+            expr_of(
+                alloc,
+                ExprForm::Select {
+                    width: *width,
+                    offset: *offset,
+                    is_falling: *is_falling,
+                    outside: *outside,
+                    base,
+                    index,
+                },
+            )
+        }
+        ExprForm::Binary { op, left, right } => {
+            let left = copy_expr(alloc, left)?;
+            let right = copy_expr(alloc, right)?;
+            expr_of(
+                alloc,
+                ExprForm::Binary {
+                    op: *op,
+                    left,
+                    right,
+                },
+            )
+        }
+        ExprForm::Choose { condition, yes, no } => {
+            let condition = copy_expr(alloc, condition)?;
+            let yes = copy_expr(alloc, yes)?;
+            let no = copy_expr(alloc, no)?;
+            expr_of(alloc, ExprForm::Choose { condition, yes, no })
+        }
+        ExprForm::Join { high, low } => {
+            let high = copy_expr(alloc, high)?;
+            let low = copy_expr(alloc, low)?;
+            expr_of(alloc, ExprForm::Join { high, low })
+        }
+        _ => unreachable!(),
+    }
+}
+
+/// Copies what is asked of a value.
+#[cycle(copies)]
+fn copy_asked(alloc: Global, form: &ExprForm) -> Result<Expr, NoMemory>
+    requires { IsAsked form.now }
+    ensures { IfOk result (λ c. c ≡ of_form form.now) }
+{
+    match form {
         ExprForm::Size {
             property,
             container,
@@ -255,22 +322,6 @@ pub fn copy_expr(alloc: Global, e: &Expr) -> Result<Expr, NoMemory>
         ExprForm::Messages { mailbox } => {
             let mailbox = copy_expr(alloc, mailbox)?;
             expr_of(alloc, ExprForm::Messages { mailbox })
-        }
-        ExprForm::Exists {
-            property,
-            container,
-            index,
-        } => {
-            let container = copy_expr(alloc, container)?;
-            let index = copy_expr(alloc, index)?;
-            expr_of(
-                alloc,
-                ExprForm::Exists {
-                    property: *property,
-                    container,
-                    index,
-                },
-            )
         }
         ExprForm::Length { text } => {
             let text = copy_expr(alloc, text)?;
@@ -304,6 +355,23 @@ pub fn copy_expr(alloc: Global, e: &Expr) -> Result<Expr, NoMemory>
                 },
             )
         }
+        ExprForm::Exists {
+            property,
+            container,
+            index,
+        } => {
+            let container = copy_expr(alloc, container)?;
+            let index = copy_expr(alloc, index)?;
+            expr_of(
+                alloc,
+                ExprForm::Exists {
+                    property: *property,
+                    container,
+                    index,
+                },
+            )
+        }
+        _ => unreachable!(),
     }
 }
 

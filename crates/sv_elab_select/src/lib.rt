@@ -3,7 +3,8 @@
 //! - `bits` has selects of bits and parts, `items` those of the items of containers and the elements of fixed arrays; `selects` has
 //!   both by the type of what is selected of.
 //! - `targets` judges what may be written; `written` has targets in the flat design, and how they are read; `behind` what stands behind.
-//! - `rules` has rules beside values; `copies` has expressions and targets once more, since what is selected stands in the value and in the target.
+//! - `rules` has rules beside values; `copies` has expressions and targets once more, since what is selected stands in the value and in
+//!   the target.
 //!
 //! Each form is a function of what its parts give, each of which may break a rule; of two broken rules the earlier one is told. Each
 //! function answers what its definition in `sv_names` gives, or the first rule that is broken, or that memory ran out.

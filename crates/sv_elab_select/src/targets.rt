@@ -100,18 +100,20 @@ pub fn may_begin(how: How, at: Place, t: &Typed) -> Result<(), Refusal>
     }
 }
 
-/// E11: no select moves, where none may; the first that does is told.
-fn none_moves(may_not_move: bool, places: &[Place]) -> Result<(), Refusal>
-    ensures { Gives result (all (λ p. rules.rule 11 p may_not_move) places.now) }
+/// E11: a select moves.
+fn moves(at: Place) -> Result<(), Refusal>
+    ensures { Gives result (rules.broken_at {A = Unit {0}} 11 at) }
+{
+    Err(Refusal::Rule { rule: 11, at })
+}
+
+/// E11: no select moves; the first that does is told.
+fn none_moves(places: &[Place]) -> Result<(), Refusal>
+    ensures { Gives result (all (λ p. rules.broken_at 11 p) places.now) }
 {
     match places {
         [] => Ok(()),
-        [place, rest @ ..] => {
-            guarded(
-                rule(11, *place, may_not_move),
-                none_moves(may_not_move, rest),
-            )
-        }
+        [place, rest @ ..] => guarded(moves(*place), none_moves(rest)),
     }
 }
 
@@ -120,7 +122,7 @@ pub fn selects_stand(how: How, moving: &[Place]) -> Result<(), Refusal>
     ensures { Gives result (targets.selects_stand how moving.now) }
 {
     match how {
-        How::Continuous => none_moves(true, moving),
+        How::Continuous => none_moves(moving),
         _ => Ok(()),
     }
 }
