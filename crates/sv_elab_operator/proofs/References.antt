@@ -1,5 +1,5 @@
 -- Operators between two references.
-use Rattle.std.proofs.Common.{◌≡◌, ℕ, List, Option, Some, None, refl, sym, ap, subst}
+use Rattle.std.proofs.Common.{◌≡◌, List, Option, Some, None, refl, sym, subst}
 use Rattle.std.specs.Prelude.{Result, ◌&&◌, ◌||◌, is_some}
 use Rattle.sv_value.specs.declared.operator.BinOp.{BinOp}
 use Rattle.sv_value.specs.declared.place.Place.{Place}

@@ -1,16 +1,15 @@
 -- Time literals in ticks.
-use Rattle.std.proofs.Common.{◌≡◌, ℕ, zero, suc, ◌+◌, ◌-◌, ◌*◌, ◌/◌, ◌%◌, ◌^◌, ◌<◌, ◌≤◌, min, Bool, true, false, List, [], ◌∷◌, length, take, drop, get_or, refl, sym, ap, ◌∙◌, subst, arith, cond, Option, Some, None, eqb, ⊎_elim, add-one, drop-cons, mul_assoc, mul_comm, mul-div_cancel, div-add-mod', le-mul_of_pos_right, le-div_iff_mul-le, mul-le-mul_left, pow-add, lit<}
+use Rattle.std.proofs.Common.{◌≡◌, ℕ, suc, ◌+◌, ◌-◌, ◌*◌, ◌/◌, ◌%◌, ◌^◌, ◌<◌, ◌≤◌, min, Bool, true, false, List, [], ◌∷◌, length, take, drop, get_or, refl, sym, ap, ◌∙◌, arith, cond, Option, Some, None, eqb, ⊎_elim, add-one, drop-cons, mul_assoc, mul-div_cancel, div-add-mod', le-mul_of_pos_right, le-div_iff_mul-le, mul-le-mul_left, pow-add, lit<}
 use Rattle.std.specs.Prelude.{not, nat_le, ◌==◌, ◌||◌, if◌then◌else◌}
 use Rattle.std.specs.List.{prefix_len}
 use Rattle.std.proofs.Math.Nat.{one-le-pow, pow-le-pow_right, mul-div-mul_right}
 use Rattle.std.proofs.lemmas.List.{drop_all}
-use Rattle.std.proofs.lemmas.Bool.{cond-true, cond-false, eq-eqb, ne_eqb, eqb-true}
+use Rattle.std.proofs.lemmas.Bool.{cond-true, cond-false, eq-eqb, ne_eqb}
 use Rattle.std.proofs.lemmas.Bool.Decides.{nat_tests, eqb_tells}
 use Rattle.sv_value.specs.declared.place.Place.{Place}
 use Rattle.sv_value.specs.Vector.{symbols_of}
 use Rattle.sv_value.proofs.Words.{symbols_of-mod}
 use Rattle.sv_flat.specs.declared.design.Scale.{Scale}
-use Rattle.sv_names.specs.declared.checked.Checked.{Checked}
 use Rattle.sv_names.specs.declared.checked.Checked.TheVariants.{Good}
 use Rattle.sv_names.specs.Checked.{unless, broken_at}
 use Rattle.sv_names.specs.Literals.{is_digit, decimal_from, leading_digits, power_of_unit, femtoseconds}

@@ -162,7 +162,8 @@ fn choose_by(
     a: Result<Typed, Refusal>,
     b: Result<Typed, Refusal>,
 ) -> Result<Typed, Refusal>
-    ensures { (x y z : checked typed) → Gives condition x → Gives a y → Gives b z → Gives result (choose_by (map (λ k. k.now) classes.now) at left right x y z) }
+    ensures { (x y z : checked typed) → Gives condition x → Gives a y → Gives b z
+        → Gives result (choose_by (map (λ k. k.now) classes.now) at left right x y z) }
 {
     match both(operand(at, condition), both(item(a), item(b))) {
         Ok((condition, (a, b))) => branches(alloc, classes, at, left, right, condition, a, b),
@@ -181,7 +182,8 @@ pub fn choose(
     a: Result<Typed, Refusal>,
     b: Result<Typed, Refusal>,
 ) -> Result<Typed, Refusal>
-    ensures { (ar : around) (x y z : checked typed) → ar.classes ≡ map (λ k. k.now) classes.now → Gives condition x → Gives a y → Gives b z → Gives result (operators.choose_of ar at left right x y z) }
+    ensures { (ar : around) (x y z : checked typed) → ar.classes ≡ map (λ k. k.now) classes.now
+        → Gives condition x → Gives a y → Gives b z → Gives result (operators.choose_of ar at left right x y z) }
 {
     choose_by(alloc, classes, at, left, right, condition, a, b)
 }

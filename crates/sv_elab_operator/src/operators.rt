@@ -208,7 +208,8 @@ pub fn numbers(
     a: Result<Typed, Refusal>,
     b: Result<Typed, Refusal>,
 ) -> Result<Typed, Refusal>
-    ensures { (x y : checked typed) → Gives a x → Gives b y → Gives result (given (λ p. operators.binary_typed op left p.0 p.1) (both_of (x ▷ values.number_operand left) (y ▷ values.number_operand right))) }
+    ensures { (x y : checked typed) → Gives a x → Gives b y → Gives result (given (λ p. operators.binary_typed op left p.0 p.1)
+        (both_of (x ▷ values.number_operand left) (y ▷ values.number_operand right))) }
 {
     match both(operand(left, a), operand(right, b)) {
         Ok((a, b)) => binary_typed(alloc, op, left, a, b),
@@ -300,7 +301,8 @@ fn comparable(
     a: Typed,
     b: Typed,
 ) -> Result<Typed, Refusal>
-    ensures { (ar : around) → ar.classes ≡ map (λ k. k.now) classes.now → Gives result (operators.comparable ar op left right a b) }
+    ensures { (ar : around) → ar.classes ≡ map (λ k. k.now) classes.now
+        → Gives result (operators.comparable ar op left right a b) }
 {
     match comparison_stands(alloc, classes, op, left, right, &a.ty, &b.ty) {
         Ok(()) => binary_typed(alloc, op, left, a, b),
@@ -318,7 +320,8 @@ pub fn comparison(
     a: Result<Typed, Refusal>,
     b: Result<Typed, Refusal>,
 ) -> Result<Typed, Refusal>
-    ensures { (ar : around) (x y : checked typed) → ar.classes ≡ map (λ k. k.now) classes.now → Gives a x → Gives b y → Gives result (both_of (x ▷ values.one_item) (y ▷ values.one_item) ▷ (λ p. operators.comparable ar op left right p.0 p.1)) }
+    ensures { (ar : around) (x y : checked typed) → ar.classes ≡ map (λ k. k.now) classes.now → Gives a x → Gives b y → Gives result
+        (both_of (x ▷ values.one_item) (y ▷ values.one_item) ▷ (λ p. operators.comparable ar op left right p.0 p.1)) }
 {
     match both(item(a), item(b)) {
         Ok((a, b)) => comparable(alloc, classes, op, left, right, a, b),
@@ -377,7 +380,8 @@ pub fn power(
     a: Result<Typed, Refusal>,
     b: Result<Typed, Refusal>,
 ) -> Result<Typed, Refusal>
-    ensures { (x y : checked typed) → Gives a x → Gives b y → Gives result (both_of (x ▷ values.number_operand left) (y ▷ values.number_operand right) ▷ (λ p. operators.power_typed operator left p.0 p.1)) }
+    ensures { (x y : checked typed) → Gives a x → Gives b y → Gives result (both_of (x ▷ values.number_operand left)
+        (y ▷ values.number_operand right) ▷ (λ p. operators.power_typed operator left p.0 p.1)) }
 {
     match both(operand(left, a), operand(right, b)) {
         Ok((a, b)) => power_typed(alloc, operator, left, a, b),
@@ -396,7 +400,8 @@ pub fn binary(
     a: Result<Typed, Refusal>,
     b: Result<Typed, Refusal>,
 ) -> Result<Typed, Refusal>
-    ensures { (ar : around) (x y : checked typed) → ar.classes ≡ map (λ k. k.now) classes.now → Gives a x → Gives b y → Gives result (operators.binary_of ar (operators.kind_of op) operator left right x y) }
+    ensures { (ar : around) (x y : checked typed) → ar.classes ≡ map (λ k. k.now) classes.now → Gives a x → Gives b y
+        → Gives result (operators.binary_of ar (operators.kind_of op) operator left right x y) }
 {
     match kind_of(op) {
         Operands::Numbers(op) => numbers(alloc, op, left, right, a, b),

@@ -143,7 +143,8 @@ fn in_wholes(number: u128, k: u32) -> Option<u64>
 #[tactic(auto, using(crate::proofs::TimeLaws::finer, crate::proofs::TimeLaws::coarser))]
 fn ticks_of(number: u128, power: u32, precision: u32) -> Result<Option<u64>, Refusal>
     requires { power ≤ 15 }
-    ensures ok { IfOk result (λ t. (d : ℕ) → number ≡ min d TOO_MANY → t ≡ times.whole_ticks (d * 10 ^ power) precision) }
+    ensures ok { IfOk result (λ t. (d : ℕ) → number ≡ min d TOO_MANY
+        → t ≡ times.whole_ticks (d * 10 ^ power) precision) }
     ensures err { IfErr result (λ e. e ≡ Memory) }
 {
     if 17 < precision {
@@ -183,7 +184,8 @@ fn ticks_in(scale: &Scale, at: Place, text: &[u8]) -> Result<u64, Refusal>
 /// Ticks in units, half upward. Memory is wanting for units above 100 s, which no scale has.
 #[tactic(auto, using(crate::proofs::TimeLaws::low_bits, crate::proofs::TimeLaws::ten_positive))]
 fn units_of(scale: &Scale, ticks: u64) -> Result<Bits, Refusal>
-    ensures ok { IfOk result (λ b. b ≡ vector false (symbols_of 64 (operators.rounded ticks (10 ^ (scale.now.unit - scale.now.precision))) 0)) }
+    ensures ok { IfOk result (λ b. b ≡ vector false
+        (symbols_of 64 (operators.rounded ticks (10 ^ (scale.now.unit - scale.now.precision))) 0)) }
     ensures err { IfErr result (λ e. e ≡ Memory) }
 {
     if 17 < scale.unit {

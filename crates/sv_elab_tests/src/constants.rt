@@ -10,7 +10,7 @@ use sv_elab_value::{alone, bits_of, constant_count, constant_number};
 use sv_flat::{ExprForm, Scale};
 use sv_names::{Refusal, Typed};
 use sv_tree::{BinaryWord, UnaryWord};
-use sv_value::{Pad, Place, Radix, Seq, Text};
+use sv_value::{Bits, Pad, Place, Radix, Seq, Text};
 
 const HERE: Place = Place {
     file: 0,
@@ -18,10 +18,20 @@ const HERE: Place = Place {
     col: 1,
 };
 
+/// Two texts are one.
+fn same<R: Abort>(rt: &R, got: &[u8], wanted: &[u8]) {
+    assert_eq!(rt; got, wanted);
+}
+
 /// What a constant is worth, in a base.
-fn worth(alloc: Global, t: &Typed, radix: Radix) -> Result<Text, Fail> {
-    let bits = bits_of(&t.code.value)?;
-    Ok(print(alloc, bits, radix, Pad::Least)?)
+fn worth(alloc: Global, t: Result<Typed, Refusal>, radix: Radix) -> Result<Text, Fail> {
+    Ok(print(alloc, bits_in(t)?, radix, Pad::Least)?)
+}
+
+/// The bits of a constant.
+fn bits_in(t: Result<Typed, Refusal>) -> Result<Bits, Refusal> {
+    let t = t?;
+    bits_of(&t.code.value)
 }
 
 /// A number with its sign before it.
@@ -44,9 +54,9 @@ fn gives<R: Abort>(
     b: Result<Typed, Refusal>,
     wanted: &[u8],
 ) -> Result<(), Fail> {
-    let t = binary(alloc, &[], op, HERE, HERE, HERE, a, b)?;
-    let text = worth(alloc, &t, Radix::Dec)?;
-    assert_eq!(rt; text.bytes(), wanted);
+    let t = binary(alloc, &[], op, HERE, HERE, HERE, a, b);
+    let text = worth(alloc, t, Radix::Dec)?;
+    same(rt, text.bytes(), wanted);
     Ok(())
 }
 
@@ -114,17 +124,17 @@ fn chosen(alloc: Global, condition: &[u8]) -> Result<Text, Fail> {
         number(alloc, HERE, condition),
         number(alloc, HERE, b"4'b0011"),
         number(alloc, HERE, b"4'b0101"),
-    )?;
-    worth(alloc, &t, Radix::Hex)
+    );
+    worth(alloc, t, Radix::Hex)
 }
 
 // IEEE 1800-2017, 11.4.11, Table 11-20: bits that differ are x.
 #[test]
 fn a_condition_chooses(rt: HostRuntime) -> Result<(), Fail> {
     let alloc = rt.alloc();
-    assert_eq!(rt; chosen(alloc, b"1'b1")?.bytes(), b"3");
-    assert_eq!(rt; chosen(alloc, b"1'b0")?.bytes(), b"5");
-    assert_eq!(rt; chosen(alloc, b"1'bx")?.bytes(), b"X");
+    same(&rt, chosen(alloc, b"1'b1")?.bytes(), b"3");
+    same(&rt, chosen(alloc, b"1'b0")?.bytes(), b"5");
+    same(&rt, chosen(alloc, b"1'bx")?.bytes(), b"X");
     Ok(())
 }
 
@@ -143,10 +153,10 @@ fn pair(alloc: Global) -> Result<Typed, Refusal> {
 #[test]
 fn parts_are_joined(rt: HostRuntime) -> Result<(), Fail> {
     let alloc = rt.alloc();
-    let t = pair(alloc)?;
-    assert_eq!(rt; worth(alloc, &t, Radix::Bin)?.bytes(), b"100110");
-    let t = repeat(alloc, HERE, Ok(2), pair(alloc))?;
-    assert_eq!(rt; worth(alloc, &t, Radix::Bin)?.bytes(), b"100110100110");
+    let t = pair(alloc);
+    same(&rt, worth(alloc, t, Radix::Bin)?.bytes(), b"100110");
+    let t = repeat(alloc, HERE, Ok(2), pair(alloc));
+    same(&rt, worth(alloc, t, Radix::Bin)?.bytes(), b"100110100110");
     let wide = repeat(alloc, HERE, Ok(11), pair(alloc)).err();
     assert_eq!(rt; wide, Some(Refusal::Rule { rule: 13, at: HERE }));
     let wide = repeat(alloc, HERE, Ok(1 << 63), pair(alloc)).err();
@@ -154,13 +164,19 @@ fn parts_are_joined(rt: HostRuntime) -> Result<(), Fail> {
     Ok(())
 }
 
+/// A number as one of a width.
+fn cast(alloc: Global, width: u64, text: &[u8]) -> Result<Typed, Refusal> {
+    let t = number(alloc, HERE, text)?;
+    sized(alloc, HERE, HERE, width, t)
+}
+
 // IEEE 1800-2017, 6.24.1: a cast to a width keeps the sign.
 #[test]
 fn casts_keep_the_sign(rt: HostRuntime) -> Result<(), Fail> {
     let alloc = rt.alloc();
-    let t = sized(alloc, HERE, HERE, 8, number(alloc, HERE, b"4'sb1000")?)?;
-    assert_eq!(rt; worth(alloc, &t, Radix::Dec)?.bytes(), b"-8");
-    let wide = sized(alloc, HERE, HERE, 65, number(alloc, HERE, b"1")?).err();
+    let t = cast(alloc, 8, b"4'sb1000");
+    same(&rt, worth(alloc, t, Radix::Dec)?.bytes(), b"-8");
+    let wide = cast(alloc, 65, b"1").err();
     assert_eq!(rt; wide, Some(Refusal::Rule { rule: 13, at: HERE }));
     Ok(())
 }
@@ -173,32 +189,34 @@ fn times_are_whole(rt: HostRuntime) -> Result<(), Fail> {
         unit: 6,
         precision: 5,
     };
-    let t = time(alloc, &scale, HERE, b"2100ps")?;
-    assert_eq!(rt; worth(alloc, &t, Radix::Dec)?.bytes(), b"2");
-    let t = time(alloc, &scale, HERE, b"2500ps")?;
-    assert_eq!(rt; worth(alloc, &t, Radix::Dec)?.bytes(), b"3");
+    let t = time(alloc, &scale, HERE, b"2100ps");
+    same(&rt, worth(alloc, t, Radix::Dec)?.bytes(), b"2");
+    let t = time(alloc, &scale, HERE, b"2500ps");
+    same(&rt, worth(alloc, t, Radix::Dec)?.bytes(), b"3");
     let finer = time(alloc, &scale, HERE, b"2150ps").err();
     assert_eq!(rt; finer, Some(Refusal::Rule { rule: 52, at: HERE }));
     Ok(())
 }
 
+/// What a constant counts.
+fn count_of(t: Result<Typed, Refusal>) -> Result<u64, Refusal> {
+    constant_count(HERE, &t?)
+}
+
+/// The number of a constant.
+fn number_of(t: Result<Typed, Refusal>) -> Result<i128, Refusal> {
+    constant_number(HERE, &t?)
+}
+
 #[test]
-fn constants_count(rt: HostRuntime) -> Result<(), Fail> {
+fn constants_count(rt: HostRuntime) {
     let alloc = rt.alloc();
-    let most = number(alloc, HERE, b"64'hffff_ffff_ffff_ffff")?;
-    assert_eq!(rt; constant_count(HERE, &most), Ok(0xffff_ffff_ffff_ffff));
-    let less = negative(alloc, b"1")?;
-    assert_eq!(rt; constant_number(HERE, &less), Ok(-1));
-    assert_eq!(rt;
-        constant_count(HERE, &less),
-        Err(Refusal::Rule { rule: 12, at: HERE })
-    );
-    let unknown = number(alloc, HERE, b"'x")?;
-    assert_eq!(rt;
-        constant_number(HERE, &unknown),
-        Err(Refusal::Rule { rule: 12, at: HERE })
-    );
-    Ok(())
+    let refused = Refusal::Rule { rule: 12, at: HERE };
+    let most = number(alloc, HERE, b"64'hffff_ffff_ffff_ffff");
+    assert_eq!(rt; count_of(most), Ok(0xffff_ffff_ffff_ffff));
+    assert_eq!(rt; number_of(negative(alloc, b"1")), Ok(-1));
+    assert_eq!(rt; count_of(negative(alloc, b"1")), Err(refused));
+    assert_eq!(rt; number_of(number(alloc, HERE, b"'x")), Err(refused));
 }
 
 #[test]
@@ -206,7 +224,7 @@ fn strings_are_folded(rt: HostRuntime) -> Result<(), Fail> {
     let alloc = rt.alloc();
     let code = alone(alloc, string(alloc, HERE, b"\"a\\n\"")?)?;
     match &*code.value.form {
-        ExprForm::Text { bytes } => assert_eq!(rt; bytes.as_slice(), b"a\n"),
+        ExprForm::Text { bytes } => same(&rt, bytes.as_slice(), b"a\n"),
         _ => assert!(rt; false),
     }
     Ok(())

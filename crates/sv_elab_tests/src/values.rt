@@ -7,6 +7,11 @@ use sv_eval::{Nowhere, Stopped, text_in, value, value_in, vector_in};
 use sv_flat::{Context, Expr, ExprForm, NamedItem};
 use sv_value::{Bits, FaultKind, FormatField, Pad, Radix, Seq, Sym, Text, Val};
 
+/// Two texts are one.
+fn same<R: Abort>(rt: &R, got: &[u8], wanted: &[u8]) {
+    assert_eq!(rt; got, wanted);
+}
+
 /// The bits of a literal.
 fn bits(text: &[u8]) -> Result<Bits, Fail> {
     let number = read_literal(text).ok().ok_or("literal")?;
@@ -59,11 +64,11 @@ fn nibble(alloc: Global, index: &[u8]) -> Result<Text, Fail> {
 #[test]
 fn bits_are_selected(rt: HostRuntime) -> Result<(), Fail> {
     let alloc = rt.alloc();
-    assert_eq!(rt; nibble(alloc, b"3")?.bytes(), b"1001");
-    assert_eq!(rt; nibble(alloc, b"0")?.bytes(), b"100x");
-    assert_eq!(rt; nibble(alloc, b"7")?.bytes(), b"xx11");
-    assert_eq!(rt; nibble(alloc, b"64")?.bytes(), b"xxxx");
-    assert_eq!(rt; nibble(alloc, b"1'bx")?.bytes(), b"xxxx");
+    same(&rt, nibble(alloc, b"3")?.bytes(), b"1001");
+    same(&rt, nibble(alloc, b"0")?.bytes(), b"100x");
+    same(&rt, nibble(alloc, b"7")?.bytes(), b"xx11");
+    same(&rt, nibble(alloc, b"64")?.bytes(), b"xxxx");
+    same(&rt, nibble(alloc, b"1'bx")?.bytes(), b"xxxx");
     Ok(())
 }
 
@@ -109,7 +114,7 @@ fn literals_fill_their_context(rt: HostRuntime) -> Result<(), Fail> {
         signed: false,
     };
     let value = value_in(alloc, &Nowhere, &e, context).ok().ok_or("value")?;
-    assert_eq!(rt; digits(alloc, &value)?.bytes(), b"11111");
+    same(&rt, digits(alloc, &value)?.bytes(), b"11111");
     Ok(())
 }
 
@@ -119,7 +124,7 @@ fn strings_are_repeated(rt: HostRuntime) -> Result<(), Fail> {
     let alloc = rt.alloc();
     let part = text(alloc, b"ab")?;
     let value_of_two = worth(alloc, ExprForm::Repeat { count: 2, part })?;
-    assert_eq!(rt; text_in(&value_of_two), b"abab");
+    same(&rt, text_in(&value_of_two), b"abab");
     let part = text(alloc, b"ab")?;
     let long = Expr::new(alloc, ExprForm::Repeat { count: 32768, part })?;
     let fault = value(alloc, &Nowhere, &long).err();
@@ -140,7 +145,7 @@ fn values_are_named_and_printed(rt: HostRuntime) -> Result<(), Fail> {
     })?;
     let operand = literal(alloc, b"2'd2")?;
     let named = worth(alloc, ExprForm::Name { items, operand })?;
-    assert_eq!(rt; text_in(&named), b"RED");
+    same(&rt, text_in(&named), b"RED");
     let operand = literal(alloc, b"8'd65")?;
     let printed = worth(
         alloc,
@@ -150,6 +155,6 @@ fn values_are_named_and_printed(rt: HostRuntime) -> Result<(), Fail> {
             operand,
         },
     )?;
-    assert_eq!(rt; text_in(&printed), b" A");
+    same(&rt, text_in(&printed), b" A");
     Ok(())
 }

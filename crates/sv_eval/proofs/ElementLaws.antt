@@ -1,9 +1,9 @@
 -- Elements of fixed arrays.
-use Rattle.std.proofs.Common.{◌≡◌, ℕ, ℤ, Option, Some, None, refl, Bool, true, false}
+use Rattle.std.proofs.Common.{◌≡◌, ℕ, ℤ, Option, Some, None, refl}
 use Rattle.sv_value.specs.declared.val.Val.{Val}
 use Rattle.sv_value.specs.declared.val.Plain.{Plain}
 use Rattle.sv_flat.specs.declared.object.Bounds.{Bounds}
-use Rattle.sv_flat.specs.Eval.{element, element_place}
+use Rattle.sv_flat.specs.Eval.{element}
 use Rattle.sv_eval.specs.Evaluates.{place_at, value_or_initial}
 
 -- an element by its place

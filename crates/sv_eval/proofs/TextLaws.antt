@@ -9,15 +9,13 @@ use Rattle.std.proofs.lemmas.List.{length-append, append-nil, nil_from_length}
 use Rattle.std.proofs.lemmas.Bool.{and_from, and_right, eqb-true, eq-eqb, false_from_ne_true, cond-false, cond-true}
 use Rattle.std.proofs.lemmas.Bool.Decides.{nat_tests}
 use Rattle.sv_value.specs.declared.word.Sym.{Sym}
-use Rattle.sv_value.specs.declared.word.Sym.TheVariants.{Zero, One, X, Z}
-use Rattle.sv_value.specs.declared.val.Val.{Val}
 use Rattle.sv_value.specs.declared.val.Val.TheVariants as val
 use Rattle.sv_value.specs.declared.place.FaultKind.TheVariants.{Length}
 use Rattle.sv_value.specs.Vector.{Vector}
 use Rattle.sv_value.specs.Containers.{texts_below}
 use Rattle.sv_value.specs.Operators.{all_same, same_symbol}
 use Rattle.sv_flat.specs.declared.expr.NamedItem.{NamedItem}
-use Rattle.sv_flat.specs.Eval.{Valued, texts, text, same_bytes, name_of, repeated}
+use Rattle.sv_flat.specs.Eval.{texts, text, same_bytes, name_of, repeated}
 
 -- ---- copies
 

@@ -1,5 +1,6 @@
 -- What an evaluation answers, against the definition (IEEE 1800-2017, 11).
-use Rattle.std.specs.Prelude.{◌≡◌, [], Option, None, Some, Result, Ok, Err, ℤ, ℕ}
+use Rattle.std.specs.Prelude.{◌≡◌, Bool, [], Option, None, Some, Result, Ok, Err, ℤ, ℕ}
+use Rattle.sv_value.specs.declared.word.Sym.{Sym}
 use Rattle.sv_value.specs.declared.val.Val.{Val}
 use Rattle.sv_value.specs.declared.val.Plain.{Plain}
 use Rattle.sv_value.specs.declared.operator.BinOp.{BinOp}
@@ -8,7 +9,7 @@ use Rattle.sv_flat.specs.declared.context.Context.{Context}
 use Rattle.sv_flat.specs.declared.context.Operands.{Operands}
 use Rattle.sv_flat.specs.Expr.{Expr}
 use Rattle.sv_flat.specs.State.{View, no_value, initial_of}
-use Rattle.sv_flat.specs.Eval.{Valued, eval, width_of, is_signed, by_operands, element_place, with_result, bits, compared}
+use Rattle.sv_flat.specs.Eval.{Valued, eval, width_of, is_signed, by_operands, element_place, with_result, bits, compared, selected, vector_in, known_index}
 use Rattle.sv_eval.specs.declared.stopped.Stopped.{Stopped}
 use Rattle.sv_eval.specs.declared.stopped.Stopped.TheVariants.{Memory, Fault}
 
@@ -39,13 +40,18 @@ nowhere =
 -- an operation on its operands, in a context
 abbrev pub operation : Operands → BinOp → Context → Expr → Expr → View → Valued
 operation o op c a b v =
-    by_operands o op c.width c.signed (width_of a) (is_signed a) (width_of b) (is_signed b) (λ n t. eval a n t v) (λ n t. eval b n t v)
+    by_operands o op c.width c.signed (width_of a) (is_signed a) (width_of b) (is_signed b)
+    (λ n t. eval a n t v) (λ n t. eval b n t v)
 
 -- a comparison of its operands in a context of their own
 abbrev pub compared_in : (inner : Context) → BinOp → Context → Expr → Expr → View → Valued
 compared_in inner op c a b v =
     with_result (eval a inner.width inner.signed v) (λ x.
     with_result (eval b inner.width inner.signed v) (λ y. bits c.width c.signed (compared op x y)))
+
+-- a select by the values of its base and its index, in a context
+abbrev pub selected_in : Context → (width : ℕ) → (offset : ℤ) → (is_falling : Bool) → (outside : Sym) → (base index : Val) → Valued
+selected_in c w o f outside x y = bits c.width c.signed (selected w o f outside (vector_in x) (known_index (vector_in y)))
 
 -- the place in a fixed array that an index stands for
 abbrev pub place_at : Bounds → Option ℤ → Option ℕ

@@ -38,7 +38,8 @@ fn merged_texts(alloc: Global, a: &[u8], b: &[u8]) -> Result<Val, Stopped>
 
 /// Two branches that are references: the reference where they are the same, else null.
 fn merged_references(a: &Val, b: &Val) -> Val
-    ensures { result ≡ val.Object (if eval.same_reference (eval.reference_in a.now) (eval.reference_in b.now) then eval.reference_in a.now else None) }
+    ensures { result ≡ val.Object (if eval.same_reference (eval.reference_in a.now) (eval.reference_in b.now)
+        then eval.reference_in a.now else None) }
 {
     let key = reference_in(a);
     if same_reference(key, reference_in(b)) {
@@ -88,7 +89,8 @@ fn merged_values(alloc: Global, a: &Val, b: &Val) -> Result<Val, Stopped>
 
 /// Both branches under an unknown condition (IEEE 1800-2017, 11.4.11).
 pub fn merged(alloc: Global, yes: &Val, no: Result<Val, Stopped>) -> Result<Val, Stopped>
-    ensures { (t : Valued) → Evaluates no t → Evaluates result (with_result t (λ y. Ok (eval.merged_values yes.now y))) }
+    ensures { (t : Valued) → Evaluates no t
+        → Evaluates result (with_result t (λ y. Ok (eval.merged_values yes.now y))) }
 {
     match no {
         Ok(y) => merged_values(alloc, yes, &y),

@@ -2,7 +2,7 @@
 ghost use Rattle.std.specs.Prelude.{◌≡◌, ◌+◌, ◌&&◌, max, Ok, IfOk};
 ghost use Rattle.sv_value.specs.declared.val.Val.{Val as val};
 ghost use Rattle.sv_flat.specs.Eval as eval;
-ghost use Rattle.sv_flat.specs.Eval.{Valued, with_result};
+ghost use Rattle.sv_flat.specs.Eval.{with_both};
 ghost use Rattle.sv_eval.specs.Evaluates.{Evaluates, operation, compared_in};
 
 use crate::branches::merged;
@@ -12,7 +12,6 @@ use crate::joins::{joined, repeated, select};
 use crate::operators::{binary_inside, compared, decides, truth_of_both};
 use crate::{Stopped, Values};
 use std::alloc::Global;
-use sv_arith::any_one;
 use sv_flat::{Bounds, Context, Expr, ExprForm, Operands, is_in_context, operands_of};
 use sv_value::{BinOp, Bits, FaultKind, NoMemory, ObjId, Plain, Sym, Val};
 
@@ -37,7 +36,10 @@ fn own_context(expr: &Expr) -> Result<Context, NoMemory>
 
 /// The context of two operands that are compared. Memory is wanting for widths that are not kept whole.
 fn wider_context(left: &Expr, right: &Expr) -> Result<Context, NoMemory>
-    ensures { IfOk result (λ c. c ≡ record { width = max (eval.width_of left.now) (eval.width_of right.now); signed = eval.is_signed left.now && eval.is_signed right.now }) }
+    ensures { IfOk result (λ c. c ≡ record {
+      width = max (eval.width_of left.now) (eval.width_of right.now);
+      signed = eval.is_signed left.now && eval.is_signed right.now;
+    }) }
 {
     let a = own_context(left)?;
     let b = own_context(right)?;
@@ -55,7 +57,8 @@ fn object_element<V: Values>(
     ty: Plain,
     index: &Val,
 ) -> Result<Val, NoMemory>
-    ensures { IfOk result (λ x. x ≡ eval.element ty ((V.view values.now).object object) bounds (eval.known_index (eval.vector_in index.now))) }
+    ensures { IfOk result (λ x. x ≡
+        eval.element ty ((V.view values.now).object object) bounds (eval.known_index (eval.vector_in index.now))) }
 {
     match place_at(bounds, index_in(index))? {
         Some(place) => values.object(alloc, object, place),
@@ -63,7 +66,7 @@ fn object_element<V: Values>(
     }
 }
 
-/// An element of an array whose first one is a variable of an activation. Memory is wanting where its place passes a word.
+/// An element of an array whose first one is a variable of an activation. Memory is wanting where its place is no word.
 fn variable_element<V: Values>(
     alloc: Global,
     values: &V,
@@ -73,7 +76,8 @@ fn variable_element<V: Values>(
     ty: Plain,
     index: &Val,
 ) -> Result<Val, NoMemory>
-    ensures { IfOk result (λ x. x ≡ eval.element ty (λ k. (V.view values.now).variable up (first + k)) bounds (eval.known_index (eval.vector_in index.now))) }
+    ensures { IfOk result (λ x. x ≡ eval.element ty
+        (λ k. (V.view values.now).variable up (first + k)) bounds (eval.known_index (eval.vector_in index.now))) }
 {
     match place_at(bounds, index_in(index))? {
         Some(place) => match u64::from(first).checked_add(place) {
@@ -335,8 +339,8 @@ fn both_branches<V: Values>(
     yes: &Expr,
     no: &Expr,
 ) -> Result<Val, Stopped>
-    ensures { Evaluates result (with_result (eval.eval yes.now context.width context.signed (V.view values.now)) (λ x.
-        with_result (eval.eval no.now context.width context.signed (V.view values.now)) (λ y. Ok (eval.merged_values x y)))) }
+    ensures { Evaluates result (with_both (eval.eval yes.now context.width context.signed (V.view values.now))
+        (λ _. eval.eval no.now context.width context.signed (V.view values.now)) (λ x y. Ok (eval.merged_values x y))) }
 {
     match value_in(alloc, values, yes, context) {
         Ok(x) => merged(alloc, &x, value_in(alloc, values, no, context)),

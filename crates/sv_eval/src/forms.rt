@@ -123,8 +123,8 @@ pub fn unary_alone(
     context: Context,
     operand: Result<Val, Stopped>,
 ) -> Result<Val, Stopped>
-    ensures { (r : Valued) → Evaluates operand r
-        → Evaluates result (with_result r (λ x. eval.bits context.width context.signed (operators.unary_of op (eval.vector_in x)))) }
+    ensures { (r : Valued) → Evaluates operand r → Evaluates result (with_result r (λ x.
+        eval.bits context.width context.signed (operators.unary_of op (eval.vector_in x)))) }
 {
     match operand {
         Ok(x) => vector_value(context, unary(op, vector_in(&x))),
@@ -138,8 +138,8 @@ pub fn converted(
     context: Context,
     operand: Result<Val, Stopped>,
 ) -> Result<Val, Stopped>
-    ensures { (r : Valued) → Evaluates operand r
-        → Evaluates result (with_result r (λ x. eval.bits context.width context.signed (eval.as_integral to (eval.vector_in x)))) }
+    ensures { (r : Valued) → Evaluates operand r → Evaluates result (with_result r (λ x.
+        eval.bits context.width context.signed (eval.as_integral to (eval.vector_in x)))) }
 {
     match operand {
         Ok(x) => {
@@ -152,8 +152,8 @@ pub fn converted(
 
 /// `$clog2`
 pub fn log(context: Context, operand: Result<Val, Stopped>) -> Result<Val, Stopped>
-    ensures { (r : Valued) → Evaluates operand r
-        → Evaluates result (with_result r (λ x. eval.bits context.width context.signed (eval.log_of (eval.vector_in x)))) }
+    ensures { (r : Valued) → Evaluates operand r → Evaluates result (with_result r (λ x.
+        eval.bits context.width context.signed (eval.log_of (eval.vector_in x)))) }
 {
     match operand {
         Ok(x) => vector_value(context, log_of(vector_in(&x))),
@@ -163,8 +163,8 @@ pub fn log(context: Context, operand: Result<Val, Stopped>) -> Result<Val, Stopp
 
 /// The length of a string.
 pub fn text_length(context: Context, text: Result<Val, Stopped>) -> Result<Val, Stopped>
-    ensures { (r : Valued) → Evaluates text r
-        → Evaluates result (with_result r (λ x. eval.bits context.width context.signed (eval.int_of (length (eval.text_in x))))) }
+    ensures { (r : Valued) → Evaluates text r → Evaluates result (with_result r (λ x.
+        eval.bits context.width context.signed (eval.int_of (length (eval.text_in x))))) }
 {
     match text {
         Ok(x) => vector_value(context, int_of(text_in(&x).len() as u64)),
@@ -218,7 +218,8 @@ pub fn printed(
 
 /// A time in units, rounded half upward. Memory is wanting where a unit has no tick.
 pub fn time(context: Context, now: u64, unit: u64) -> Result<Val, Stopped>
-    ensures { Evaluates result (eval.bits context.width context.signed (unsigned (symbols_of 64 (eval.in_units now unit) 0))) }
+    ensures { Evaluates result (eval.bits context.width context.signed
+        (unsigned (symbols_of 64 (eval.in_units now unit) 0))) }
 {
     if unit == 0 {
         return Err(Stopped::Memory);

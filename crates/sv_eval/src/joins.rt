@@ -5,7 +5,7 @@ ghost use Rattle.sv_value.specs.Operators as operators;
 ghost use Rattle.sv_value.specs.Vector.{unsigned};
 ghost use Rattle.sv_flat.specs.Eval as eval;
 ghost use Rattle.sv_flat.specs.Eval.{Valued, with_result};
-ghost use Rattle.sv_eval.specs.Evaluates.{Evaluates};
+ghost use Rattle.sv_eval.specs.Evaluates.{Evaluates, selected_in};
 
 use crate::Stopped;
 use crate::forms::{index_in, vector_in, vector_value};
@@ -31,7 +31,8 @@ fn joined_bits(a: Bits, b: Bits) -> Result<Bits, NoMemory>
 
 /// A concatenation of two values as vectors.
 fn joined_vectors(context: Context, a: &Val, b: &Val) -> Result<Val, Stopped>
-    ensures { Evaluates result (eval.bits context.width context.signed (operators.joined (eval.vector_in a.now) (eval.vector_in b.now))) }
+    ensures { Evaluates result
+        (eval.bits context.width context.signed (operators.joined (eval.vector_in a.now) (eval.vector_in b.now))) }
 {
     let value = joined_bits(vector_in(a), vector_in(b))?;
     vector_value(context, value)
@@ -140,8 +141,8 @@ pub fn select(
     base: &Val,
     index: Result<Val, Stopped>,
 ) -> Result<Val, Stopped>
-    ensures { (t : Valued) → Evaluates index t → Evaluates result (with_result t (λ y. eval.bits context.width context.signed
-        (eval.selected width offset is_falling outside (eval.vector_in base.now) (eval.known_index (eval.vector_in y))))) }
+    ensures { (t : Valued) → Evaluates index t
+        → Evaluates result (with_result t (λ y. selected_in context width offset is_falling outside base.now y)) }
 {
     match index {
         Ok(y) => {

@@ -134,7 +134,8 @@ fn bit_of(test: bool) -> Bits
 
 /// A comparison of two values that are not both vectors, nor both texts.
 fn compared_references(op: BinOp, x: &Val, y: &Val) -> Bits
-    ensures { result ≡ operators.one_bit (operators.bit_of (eval.reference_test op (eval.reference_in x.now) (eval.reference_in y.now))) }
+    ensures { result ≡ operators.one_bit
+        (operators.bit_of (eval.reference_test op (eval.reference_in x.now) (eval.reference_in y.now))) }
 {
     bit_of(reference_test(op, reference_in(x), reference_in(y)))
 }

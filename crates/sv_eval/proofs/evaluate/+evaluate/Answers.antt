@@ -1,4 +1,4 @@
-use Rattle.std.proofs.Common.{◌≡◌, ◌+◌, ℕ, arith, rules, ap, sym, ◌∙◌}
+use Rattle.std.proofs.Common.{◌≡◌, ◌+◌, arith, rules, ap, sym, ◌∙◌}
 use Rattle.sv_flat.specs.Expr.{expr_size}
 use Rattle.sv_flat.specs.ExprView.{of_form}
 use Rattle.sv_eval.proofs.evaluate.+evaluate.Goals as goal

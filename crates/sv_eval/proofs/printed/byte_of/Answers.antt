@@ -1,5 +1,5 @@
-use Rattle.std.proofs.Common.{◌≡◌, ℕ, List, take, drop, map, min, length, ap, ◌∙◌}
-use Rattle.sv_value.specs.Vector.{Vector, unsigned, two_state}
+use Rattle.std.proofs.Common.{ℕ, take, drop, min, length, ap, ◌∙◌}
+use Rattle.sv_value.specs.Vector.{Vector, unsigned}
 use Rattle.sv_eval.proofs.PrintLaws.{byte_is}
 use Rattle.sv_eval.proofs.printed.byte_of.Goals as goal
 

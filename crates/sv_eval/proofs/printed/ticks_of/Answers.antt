@@ -1,5 +1,5 @@
 use Rattle.std.proofs.Common.{◌≡◌, ◌*◌, [], ◌∷◌, ◌++◌, sym, ap, ◌∙◌}
-use Rattle.std.specs.Prelude.{ℕ, ℤ, pos, ◌*ℤ◌, unsigned_abs}
+use Rattle.std.specs.Prelude.{ℕ, ℤ, pos, ◌*ℤ◌}
 use Rattle.sv_value.specs.Operators.{integer_in}
 use Rattle.sv_value.specs.Digits.{decimal, signed_decimal}
 use Rattle.sv_eval.proofs.PrintLaws.{negative_time, natural_time}
