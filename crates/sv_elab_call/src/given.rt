@@ -54,12 +54,7 @@ pub(crate) fn result_of(
 }
 
 /// What a call gives, in a hidden variable of its statement; an operator is a value by itself.
-pub fn as_value(
-    alloc: Global,
-    around: &Around,
-    at: Place,
-    called: Called,
-) -> Result<Typed, Refusal>
+pub fn as_value(alloc: Global, around: &Around, at: Place, called: Called) -> Result<Typed, Refusal>
     ensures ok { IfOk result (λ t. t ≡ calls.as_value (around_in around.now) at called) }
     ensures err { IfErr result (λ e. e ≡ Memory) }
 {
