@@ -20,7 +20,7 @@ use sv_value::{Place, Seq};
 
 /// What a function answers, as a thing that may break a rule.
 pub fn judged_thing(thing: Result<Thing, Refusal>) -> Result<Checked<Thing>, Refusal>
-    ensures ok { (x : checked thing_of) → GivesAs thing_in thing x → IfOk result (λ c. given thing_in c ≡ x) }
+    ensures ok { (x : checked thing_of) → GivesAs thing_in thing.entry x → IfOk result (λ c. given thing_in c ≡ x) }
     ensures err { IfErr result (λ e. e ≡ Memory) }
 {
     match thing {
@@ -38,7 +38,7 @@ pub fn member_step<'a>(
     thing: Checked<Thing<'a>>,
     name: &Name,
 ) -> Result<Checked<Thing<'a>>, Refusal>
-    ensures ok { IfOk result (λ c. given thing_in c ≡ (given thing_in thing ▷ things.after_dot (around_in around.now) place name.now)) }
+    ensures ok { IfOk result (λ c. given thing_in c ≡ (given thing_in thing.entry ▷ things.after_dot (around_in around.now) place name.now)) }
     ensures err { IfErr result (λ e. e ≡ Memory) }
 {
     match thing {
@@ -54,7 +54,7 @@ pub fn value_step(
     place: Place,
     thing: Checked<Thing>,
 ) -> Result<Checked<Typed>, Refusal>
-    ensures ok { IfOk result (λ c. c ≡ (given thing_in thing ▷ things.thing_value (around_in around.now) place)) }
+    ensures ok { IfOk result (λ c. c ≡ (given thing_in thing.entry ▷ things.thing_value (around_in around.now) place)) }
     ensures err { IfErr result (λ e. e ≡ Memory) }
 {
     match thing {

@@ -1,0 +1,7 @@
+use Rattle.std.proofs.Common.{refl}
+use Rattle.sv_names.specs.Arguments.{values_stand}
+use Rattle.sv_names.specs.Checked.{broken_at}
+use Rattle.sv_elab_name.proofs.thing.not_called.Goals as goal
+
+pub returns : goal.returns
+returns c = c.where_also.ensures (broken_at 7 c.args.at) (values_stand c.args.args.now) refl c.values_stand.ensures
