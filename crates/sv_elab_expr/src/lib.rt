@@ -6,7 +6,7 @@
 //! written yet answers want of memory too.
 #![tactic(auto)]
 
-mod args;
+mod actuals;
 mod behind;
 mod conversions;
 mod spots;

@@ -14,7 +14,7 @@ ghost use Rattle.sv_names.specs.Views.{around_in};
 ghost use Rattle.sv_names.specs.Given.{Gives};
 ghost use Rattle.sv_elab_name.specs.Things.{thing_in};
 
-use crate::args::{first_output, literal_text, more_outputs};
+use crate::actuals::{first_output, literal_text, more_outputs};
 use crate::behind::{after, behind_arg, behind_spots};
 use crate::conversions::cast;
 use crate::spots::as_concatenation;
@@ -451,7 +451,7 @@ fn output(alloc: Global, e: &Expr, around: &Around) -> Result<Taken, Refusal>
 }
 
 /// An expression as a target; none where it can be none. A name with what follows it is not written yet.
-#[cycle(elaborate)]
+#[cycle(targets)]
 pub fn target_in(
     alloc: Global,
     how: How,
@@ -472,7 +472,7 @@ pub fn target_in(
 }
 
 /// The parts of a concatenation as targets, each behind those before it.
-#[cycle(elaborate)]
+#[cycle(targets)]
 fn targets_in(
     alloc: Global,
     how: How,
