@@ -6,15 +6,8 @@
 //! written yet answers want of memory too.
 #![tactic(auto)]
 
-mod actuals;
-mod behind;
 mod conversions;
-mod spots;
-mod steps;
-mod system;
 mod table;
-mod words;
 
 pub use conversions::cast;
-pub use system::{system_of, system_value};
-pub use table::{args, expr, place_of, target_in};
+pub use table::{expr, place_of};

@@ -1,35 +1,22 @@
 // The table of expressions (IEEE 1800-2017, 11).
-ghost use Rattle.std.specs.Prelude.{◌≡◌, [], if◌then◌else◌, IfOk, IfErr};
+ghost use Rattle.std.specs.Prelude.{◌≡◌, ◌-◌, ◌^◌, min, length, if◌then◌else◌, IfOk, IfErr};
 ghost use Rattle.sv_tree.specs.Expr as tree;
 ghost use Rattle.sv_tree.specs.View as view;
-ghost use Rattle.sv_names.specs.declared.argument.Taken.TheVariants as taken;
-ghost use Rattle.sv_names.specs.declared.typed.How.TheVariants as how;
+ghost use Rattle.sv_names.specs.declared.checked.Checked.{Checked as checked};
+ghost use Rattle.sv_names.specs.declared.typed.Typed.{Typed as typed};
 ghost use Rattle.sv_names.specs.declared.refusal.Refusal.TheVariants.{Memory};
-ghost use Rattle.sv_names.specs.Arguments as arguments;
-ghost use Rattle.sv_names.specs.Checked.{◌▷◌, given};
+ghost use Rattle.sv_names.specs.Named.{behind, hidden_in};
 ghost use Rattle.sv_names.specs.Operators as operators;
 ghost use Rattle.sv_names.specs.Expressions as expressions;
-ghost use Rattle.sv_names.specs.Things as things;
 ghost use Rattle.sv_names.specs.Views.{around_in};
 ghost use Rattle.sv_names.specs.Given.{Gives};
-ghost use Rattle.sv_elab_name.specs.Things.{thing_in};
 
-use crate::actuals::{first_output, literal_text, more_outputs};
-use crate::behind::{after, behind_arg, behind_spots};
 use crate::conversions::cast;
-use crate::spots::as_concatenation;
-use crate::steps::{behind_object, call_step, fault_of, in_index, part_step, select_step};
-use crate::system::{system_of, system_value};
-use crate::words::{dollar, first_type, no_constructor, outputs_of_system};
 use std::alloc::Global;
-use sv_elab_name::{
-    Thing, dollar_behind, judged_thing, member_step, outputs_behind, root_thing, value_step,
-};
-use sv_elab_operator::{binary, choose, join, null, number, parts, repeat, string, time, unary};
-use sv_elab_value::counted;
-use sv_names::{Arg, Around, Checked, How, Refusal, Taken, Typed, answer, judged};
-use sv_tree::{Actuals, BinaryWord, CastType, Expr, Name, PartWord, Root, Suffix};
-use sv_value::{Place, Seq};
+use sv_elab_operator::{binary, choose, null, number, string, unary};
+use sv_names::{Around, Refusal, Typed};
+use sv_tree::{BinaryWord, CastType, Expr, Root};
+use sv_value::Place;
 
 /// The place of the first token of a root.
 fn place_of_root(root: &Root) -> Place
@@ -103,6 +90,25 @@ fn without_calls<'a>(around: &Around<'a>) -> Around<'a>
     }
 }
 
+/// How many hidden variables a list of their types has.
+fn count_of(t: &Typed) -> u32
+    ensures { result ≡ min (length t.now.code.hidden) (2 ^ 32 - 1) }
+{
+    u32::try_from(t.code.hidden.as_slice().len()).unwrap_or(u32::MAX)
+}
+
+/// What stands behind a part.
+fn after<'a>(around: &Around<'a>, a: &Result<Typed, Refusal>) -> Result<Around<'a>, Refusal>
+    ensures ok { (x : checked typed) → Gives a.now x → IfOk result (λ r. around_in r ≡ behind (hidden_in x) (around_in around.now)) }
+    ensures err { IfErr result (λ e. e ≡ Memory) }
+{
+    match a {
+        Ok(t) => Ok(around.behind(count_of(t))),
+        Err(Refusal::Rule { .. }) => Ok(around.behind(0)),
+        Err(Refusal::Memory) => Err(Refusal::Memory),
+    }
+}
+
 /// Where the right operand of an operator stands.
 fn right_of<'a>(op: BinaryWord, around: &Around<'a>) -> Around<'a>
     ensures { around_in result ≡ (if operators.decides_early op then expressions.without_calls (around_in around.now) else around_in around.now) }
@@ -115,31 +121,14 @@ fn right_of<'a>(op: BinaryWord, around: &Around<'a>) -> Around<'a>
 }
 
 /// An expression with its type. Forms whose functions are not written yet answer want of memory.
-#[cycle(elaborate)]
 pub fn expr(alloc: Global, e: &Expr, around: &Around) -> Result<Typed, Refusal>
     ensures { Gives result (expressions.expr (around_in around.now) (view.expr e.now)) }
 {
     match e {
         Expr::Number(at, text) => number(alloc, *at, text.bytes()),
-        Expr::Time(at, text) => time(alloc, &around.scale, *at, text.bytes()),
         Expr::Text(at, text) => string(alloc, *at, text.bytes()),
         Expr::Null(at) => null(alloc, *at),
-        Expr::Dollar(at) => dollar(alloc, *at, around.dollar),
-        Expr::Post(root, suffixes) => named(alloc, root, suffixes, around),
-        Expr::System(name, actuals) => system(alloc, name, actuals, around),
-        Expr::SuperNew { at, actuals, .. } => super_new(alloc, *at, actuals, around),
         Expr::Group(_, inner) => expr(alloc, inner, around),
-        Expr::Join(at, items) => join(alloc, *at, joined(alloc, items, around)),
-        Expr::Repeat {
-            at,
-            count,
-            inner,
-            items,
-        } => {
-            let n = counted(place_of(count), expr(alloc, count, around));
-            let part = join(alloc, *inner, joined(alloc, items, around));
-            repeat(alloc, *at, n, part)
-        }
         Expr::Cast(to, operand) => {
             let e = expr(alloc, operand, around);
             cast(alloc, to, place_of_cast(to), place_of(operand), around, e)
@@ -186,308 +175,6 @@ pub fn expr(alloc: Global, e: &Expr, around: &Around) -> Result<Typed, Refusal>
                 b,
             )
         }
+        _ => Err(Refusal::Memory),
     }
-}
-
-// ---- names with what follows them
-
-/// A name with what follows it, as a value.
-#[cycle(elaborate)]
-fn named(alloc: Global, root: &Root, suffixes: &[Suffix], around: &Around) -> Result<Typed, Refusal>
-    ensures { Gives result (expressions.things (around_in around.now) (tree.place_of_root root.now) (things.root_thing (around_in around.now) root.now) (view.suffix_list suffixes.now)
-        ▷ things.thing_value (around_in around.now) (tree.place_of_root root.now)) }
-{
-    let place = place_of_root(root);
-    let thing = judged_thing(root_thing(alloc, around, root))?;
-    let thing = behind_root(alloc, place, thing, suffixes, around)?;
-    let value = value_step(alloc, around, place, thing)?;
-    answer(value)
-}
-
-/// What follows a name, from the left.
-#[cycle(elaborate)]
-fn behind_root<'a>(
-    alloc: Global,
-    place: Place,
-    thing: Checked<Thing<'a>>,
-    suffixes: &[Suffix],
-    around: &Around<'a>,
-) -> Result<Checked<Thing<'a>>, Refusal>
-    ensures ok { IfOk result (λ c. given thing_in c ≡ expressions.things (around_in around.now) place (given thing_in thing) (view.suffix_list suffixes.now)) }
-    ensures err { IfErr result (λ e. e ≡ Memory) }
-{
-    let mut thing = thing;
-    for suffix in suffixes {
-        thing = step(alloc, place, thing, suffix, around)?;
-    }
-    Ok(thing)
-}
-
-/// One more suffix.
-#[cycle(elaborate)]
-fn step<'a>(
-    alloc: Global,
-    place: Place,
-    thing: Checked<Thing<'a>>,
-    suffix: &Suffix,
-    around: &Around<'a>,
-) -> Result<Checked<Thing<'a>>, Refusal>
-    ensures ok { IfOk result (λ c. (rest : tree.Suffixes) → expressions.things (around_in around.now) place (given thing_in c) rest
-        ≡ expressions.things (around_in around.now) place (given thing_in thing) (view.suffix suffix.now rest)) }
-    ensures err { IfErr result (λ e. e ≡ Memory) }
-{
-    match suffix {
-        Suffix::Member(name) => member_step(alloc, around, place, thing, name),
-        Suffix::Call(_, actuals) => call(alloc, place, thing, actuals, around),
-        Suffix::Select(at, index) => select(alloc, place, thing, *at, index, around),
-        Suffix::Part {
-            at,
-            word,
-            left,
-            right,
-        } => part_select(alloc, place, thing, *at, *word, left, right, around),
-    }
-}
-
-/// A call of what stands before it.
-#[cycle(elaborate)]
-fn call<'a>(
-    alloc: Global,
-    place: Place,
-    thing: Checked<Thing<'a>>,
-    actuals: &[Expr],
-    around: &Around<'a>,
-) -> Result<Checked<Thing<'a>>, Refusal>
-    ensures ok { IfOk result (λ c. given thing_in c ≡ expressions.called_with (around_in around.now) place (given thing_in thing) (view.expr_list actuals.now)) }
-    ensures err { IfErr result (λ e. e ≡ Memory) }
-{
-    let outputs = outputs_behind(alloc, &thing)?;
-    let inner = behind_object(around, &thing);
-    let args = args(alloc, outputs.as_slice(), actuals, &inner)?;
-    call_step(alloc, around, place, thing, args)
-}
-
-/// `[i]`: a bit, or an item of an array.
-#[cycle(elaborate)]
-fn select<'a>(
-    alloc: Global,
-    place: Place,
-    thing: Checked<Thing<'a>>,
-    at: Place,
-    index: &Expr,
-    around: &Around<'a>,
-) -> Result<Checked<Thing<'a>>, Refusal>
-    ensures ok { IfOk result (λ c. given thing_in c ≡ expressions.selected_by (around_in around.now) place (given thing_in thing) at (view.expr index.now)) }
-    ensures err { IfErr result (λ e. e ≡ Memory) }
-{
-    let dollar = dollar_behind(alloc, &thing)?;
-    let fault = fault_of(&thing);
-    let value = value_step(alloc, around, place, thing)?;
-    let inner = in_index(&dollar, &value, around);
-    let i = judged(expr(alloc, index, &inner))?;
-    select_step(alloc, around, at, place_of(index), fault, value, i)
-}
-
-/// `[l:r]`, `[b +: w]` or `[b -: w]`.
-#[cycle(elaborate)]
-fn part_select<'a>(
-    alloc: Global,
-    place: Place,
-    thing: Checked<Thing<'a>>,
-    at: Place,
-    word: PartWord,
-    left: &Expr,
-    right: &Expr,
-    around: &Around<'a>,
-) -> Result<Checked<Thing<'a>>, Refusal>
-    ensures ok { IfOk result (λ c. given thing_in c ≡ expressions.part_by (around_in around.now) place (given thing_in thing) at word (view.expr left.now) (view.expr right.now)) }
-    ensures err { IfErr result (λ e. e ≡ Memory) }
-{
-    let dollar = dollar_behind(alloc, &thing)?;
-    let fault = fault_of(&thing);
-    let value = value_step(alloc, around, place, thing)?;
-    let inner = in_index(&dollar, &value, around);
-    let l = judged(expr(alloc, left, &inner))?;
-    let r = judged(expr(alloc, right, &inner))?;
-    part_step(
-        alloc,
-        word,
-        at,
-        place,
-        place_of(left),
-        place_of(right),
-        fault,
-        value,
-        l,
-        r,
-    )
-}
-
-// ---- system names
-
-/// A system name as a value.
-#[cycle(elaborate)]
-fn system(alloc: Global, name: &Name, actuals: &Actuals, around: &Around) -> Result<Typed, Refusal>
-    ensures { Gives result (expressions.expr (around_in around.now) (tree.System name.now (view.actuals actuals.now))) }
-{
-    let system = system_of(name.text.bytes());
-    let ty = first_type(alloc, around, actuals)?;
-    let args = actual_args(alloc, outputs_of_system(system, actuals), actuals, around)?;
-    system_value(alloc, around, name.at, ty, args, system)
-}
-
-/// E38: `super.new` is no value.
-#[cycle(elaborate)]
-fn super_new(alloc: Global, at: Place, actuals: &Actuals, around: &Around) -> Result<Typed, Refusal>
-    ensures { Gives result (expressions.no_constructor at (arguments.parts_of (expressions.actual_args (around_in around.now) [] (view.actuals actuals.now)))) }
-{
-    let args = actual_args(alloc, &[], actuals, around)?;
-    no_constructor(at, parts(alloc, args))
-}
-
-/// The arguments between brackets, where some are written.
-#[cycle(elaborate)]
-fn actual_args(
-    alloc: Global,
-    outputs: &[bool],
-    actuals: &Actuals,
-    around: &Around,
-) -> Result<Seq<Arg>, Refusal>
-    ensures ok { IfOk result (λ as'. as' ≡ expressions.actual_args (around_in around.now) outputs.now (view.actuals actuals.now)) }
-    ensures err { IfErr result (λ e. e ≡ Memory) }
-{
-    match actuals {
-        Actuals::Unwritten => Ok(Seq::new(alloc)),
-        Actuals::Written(items) => args(alloc, outputs, items, around),
-    }
-}
-
-// ---- arguments and concatenations
-
-/// The parts of a concatenation.
-#[cycle(elaborate)]
-fn joined(alloc: Global, items: &[Expr], around: &Around) -> Result<Seq<(Place, Typed)>, Refusal>
-    ensures { Gives result (arguments.parts_of (expressions.args (around_in around.now) [] (view.expr_list items.now))) }
-{
-    let args = args(alloc, &[], items, around)?;
-    parts(alloc, args)
-}
-
-/// The arguments of a call, each behind those before it; `outputs` tells from the first on which are taken as targets.
-#[cycle(elaborate)]
-pub fn args(
-    alloc: Global,
-    outputs: &[bool],
-    actuals: &[Expr],
-    around: &Around,
-) -> Result<Seq<Arg>, Refusal>
-    ensures ok { IfOk result (λ as'. as' ≡ expressions.args (around_in around.now) outputs.now (view.expr_list actuals.now)) }
-    ensures err { IfErr result (λ e. e ≡ Memory) }
-{
-    let mut done = Seq::new(alloc);
-    let mut place = *around;
-    let mut outputs = outputs;
-    for e in actuals {
-        let a = arg(alloc, first_output(outputs), e, &place)?;
-        place = behind_arg(&place, &a.taken);
-        outputs = more_outputs(outputs);
-        done.push(a)?;
-    }
-    Ok(done)
-}
-
-/// An argument, as it is taken.
-#[cycle(elaborate)]
-fn arg(alloc: Global, is_output: bool, e: &Expr, around: &Around) -> Result<Arg, Refusal>
-    ensures ok { IfOk result (λ a. a ≡ record {
-      at = tree.place_of (view.expr e.now);
-      text = expressions.literal_text (view.expr e.now);
-      taken = expressions.taken is_output (λ _. expressions.target_in how.Statement (around_in around.now) (view.expr e.now)) (λ _. expressions.expr (around_in around.now) (view.expr e.now));
-    }) }
-    ensures err { IfErr result (λ e. e ≡ Memory) }
-{
-    let text = literal_text(alloc, e)?;
-    let taken = taken(alloc, is_output, e, around)?;
-    Ok(Arg {
-        at: place_of(e),
-        text,
-        taken,
-    })
-}
-
-/// A value, or a target where one is wanted and can be.
-#[cycle(elaborate)]
-fn taken(alloc: Global, is_output: bool, e: &Expr, around: &Around) -> Result<Taken, Refusal>
-    ensures ok { IfOk result (λ t. t ≡ expressions.taken is_output (λ _. expressions.target_in how.Statement (around_in around.now) (view.expr e.now)) (λ _. expressions.expr (around_in around.now) (view.expr e.now))) }
-    ensures err { IfErr result (λ e. e ≡ Memory) }
-{
-    if is_output {
-        output(alloc, e, around)
-    } else {
-        value(alloc, e, around)
-    }
-}
-
-/// An argument as a value.
-#[cycle(elaborate)]
-fn value(alloc: Global, e: &Expr, around: &Around) -> Result<Taken, Refusal>
-    ensures ok { IfOk result (λ t. t ≡ taken.Value (expressions.expr (around_in around.now) (view.expr e.now))) }
-    ensures err { IfErr result (λ e. e ≡ Memory) }
-{
-    let value = judged(expr(alloc, e, around))?;
-    Ok(Taken::Value(value))
-}
-
-/// An argument as a target, where it can be one.
-#[cycle(elaborate)]
-fn output(alloc: Global, e: &Expr, around: &Around) -> Result<Taken, Refusal>
-    ensures ok { IfOk result (λ t. t ≡ expressions.as_output (expressions.target_in how.Statement (around_in around.now) (view.expr e.now)) (λ _. expressions.expr (around_in around.now) (view.expr e.now))) }
-    ensures err { IfErr result (λ e. e ≡ Memory) }
-{
-    match target_in(alloc, How::Statement, e, around)? {
-        Some(target) => Ok(Taken::Target(target)),
-        None => value(alloc, e, around),
-    }
-}
-
-/// An expression as a target; none where it can be none. A name with what follows it is not written yet.
-#[cycle(targets)]
-pub fn target_in(
-    alloc: Global,
-    how: How,
-    e: &Expr,
-    around: &Around,
-) -> Result<Option<Checked<Seq<(Place, Typed)>>>, Refusal>
-    ensures ok { IfOk result (λ t. t ≡ expressions.target_in how (around_in around.now) (view.expr e.now)) }
-    ensures err { IfErr result (λ e. e ≡ Memory) }
-{
-    match e {
-        Expr::Post(_, _) => Err(Refusal::Memory),
-        Expr::Join(at, items) => {
-            let parts = targets_in(alloc, how, items, around)?;
-            as_concatenation(alloc, *at, parts)
-        }
-        _ => Ok(None),
-    }
-}
-
-/// The parts of a concatenation as targets, each behind those before it.
-#[cycle(targets)]
-fn targets_in(
-    alloc: Global,
-    how: How,
-    items: &[Expr],
-    around: &Around,
-) -> Result<Vec<Option<Checked<Seq<(Place, Typed)>>>>, Refusal>
-    ensures ok { IfOk result (λ ts. ts.items ≡ expressions.targets_in how (around_in around.now) (view.expr_list items.now)) }
-    ensures err { IfErr result (λ e. e ≡ Memory) }
-{
-    let mut done = Vec::new(alloc);
-    let mut place = *around;
-    for e in items {
-        let target = target_in(alloc, how, e, &place)?;
-        place = behind_spots(&place, &target);
-        done.push(target)?;
-    }
-    Ok(done)
 }
