@@ -3,12 +3,10 @@ use std::alloc::Global;
 use std::process::Abort;
 use std::test::Fail;
 use sv_digits::print;
-use sv_elab_operator::{
-    binary, choose, join, number, repeat, sized, string, time, unary, with_part,
-};
+use sv_elab_operator::{binary, choose, join, number, parts, repeat, sized, string, time, unary};
 use sv_elab_value::{alone, bits_of, constant_count, constant_number};
 use sv_flat::{ExprForm, Scale};
-use sv_names::{Refusal, Typed};
+use sv_names::{Arg, Checked, Refusal, Taken, Typed};
 use sv_tree::{BinaryWord, UnaryWord};
 use sv_value::{Bits, Pad, Place, Radix, Seq, Text};
 
@@ -138,15 +136,22 @@ fn a_condition_chooses(rt: HostRuntime) -> Result<(), Fail> {
     Ok(())
 }
 
+/// A number as a part of a concatenation.
+fn part(alloc: Global, text: &[u8]) -> Result<Arg, Refusal> {
+    let value = number(alloc, HERE, text)?;
+    Ok(Arg {
+        at: HERE,
+        text: None,
+        taken: Taken::Value(Checked::Good(value)),
+    })
+}
+
 /// `{4'b1001, 2'b10}`
 fn pair(alloc: Global) -> Result<Typed, Refusal> {
-    let none = Ok(Seq::new(alloc));
-    let low = with_part(HERE, number(alloc, HERE, b"2'b10"), none);
-    join(
-        alloc,
-        HERE,
-        with_part(HERE, number(alloc, HERE, b"4'b1001"), low),
-    )
+    let mut args = Seq::new(alloc);
+    args.push(part(alloc, b"4'b1001")?)?;
+    args.push(part(alloc, b"2'b10")?)?;
+    join(alloc, HERE, parts(alloc, args))
 }
 
 // IEEE 1800-2017, 11.4.12 and 11.4.12.1.
