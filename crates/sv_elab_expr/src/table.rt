@@ -1,22 +1,24 @@
 // The table of expressions (IEEE 1800-2017, 11).
-ghost use Rattle.std.specs.Prelude.{◌≡◌, ◌-◌, ◌^◌, min, length, if◌then◌else◌, IfOk, IfErr};
+ghost use Rattle.std.specs.Prelude.{◌≡◌, [], if◌then◌else◌, IfOk, IfErr};
 ghost use Rattle.sv_tree.specs.Expr as tree;
 ghost use Rattle.sv_tree.specs.View as view;
-ghost use Rattle.sv_names.specs.declared.checked.Checked.{Checked as checked};
-ghost use Rattle.sv_names.specs.declared.typed.Typed.{Typed as typed};
 ghost use Rattle.sv_names.specs.declared.refusal.Refusal.TheVariants.{Memory};
-ghost use Rattle.sv_names.specs.Named.{behind, hidden_in};
+ghost use Rattle.sv_names.specs.Arguments as arguments;
 ghost use Rattle.sv_names.specs.Operators as operators;
 ghost use Rattle.sv_names.specs.Expressions as expressions;
 ghost use Rattle.sv_names.specs.Views.{around_in};
 ghost use Rattle.sv_names.specs.Given.{Gives};
 
+use crate::actuals::literal_text;
+use crate::behind::{after, behind_value};
 use crate::conversions::cast;
+use crate::dollar::last_index;
 use std::alloc::Global;
-use sv_elab_operator::{binary, choose, null, number, string, unary};
-use sv_names::{Around, Refusal, Typed};
+use sv_elab_operator::{binary, choose, join, null, number, parts, repeat, string, time, unary};
+use sv_elab_value::counted;
+use sv_names::{Arg, Around, Refusal, Taken, Typed, judged};
 use sv_tree::{BinaryWord, CastType, Expr, Root};
-use sv_value::Place;
+use sv_value::{Place, Seq};
 
 /// The place of the first token of a root.
 fn place_of_root(root: &Root) -> Place
@@ -90,25 +92,6 @@ fn without_calls<'a>(around: &Around<'a>) -> Around<'a>
     }
 }
 
-/// How many hidden variables a list of their types has.
-fn count_of(t: &Typed) -> u32
-    ensures { result ≡ min (length t.now.code.hidden) (2 ^ 32 - 1) }
-{
-    u32::try_from(t.code.hidden.as_slice().len()).unwrap_or(u32::MAX)
-}
-
-/// What stands behind a part.
-fn after<'a>(around: &Around<'a>, a: &Result<Typed, Refusal>) -> Result<Around<'a>, Refusal>
-    ensures ok { (x : checked typed) → Gives a.now x → IfOk result (λ r. around_in r ≡ behind (hidden_in x) (around_in around.now)) }
-    ensures err { IfErr result (λ e. e ≡ Memory) }
-{
-    match a {
-        Ok(t) => Ok(around.behind(count_of(t))),
-        Err(Refusal::Rule { .. }) => Ok(around.behind(0)),
-        Err(Refusal::Memory) => Err(Refusal::Memory),
-    }
-}
-
 /// Where the right operand of an operator stands.
 fn right_of<'a>(op: BinaryWord, around: &Around<'a>) -> Around<'a>
     ensures { around_in result ≡ (if operators.decides_early op then expressions.without_calls (around_in around.now) else around_in around.now) }
@@ -121,13 +104,27 @@ fn right_of<'a>(op: BinaryWord, around: &Around<'a>) -> Around<'a>
 }
 
 /// An expression with its type. Forms whose functions are not written yet answer want of memory.
+#[cycle(elaborate)]
 pub fn expr(alloc: Global, e: &Expr, around: &Around) -> Result<Typed, Refusal>
     ensures { Gives result (expressions.expr (around_in around.now) (view.expr e.now)) }
 {
     match e {
         Expr::Number(at, text) => number(alloc, *at, text.bytes()),
+        Expr::Time(at, text) => time(alloc, &around.scale, *at, text.bytes()),
+        Expr::Join(at, items) => join(alloc, *at, joined(alloc, items, around)),
+        Expr::Repeat {
+            at,
+            count,
+            inner,
+            items,
+        } => {
+            let n = counted(place_of(count), expr(alloc, count, around));
+            let part = join(alloc, *inner, joined(alloc, items, around));
+            repeat(alloc, *at, n, part)
+        }
         Expr::Text(at, text) => string(alloc, *at, text.bytes()),
         Expr::Null(at) => null(alloc, *at),
+        Expr::Dollar(at) => last_index(alloc, *at, around.dollar),
         Expr::Group(_, inner) => expr(alloc, inner, around),
         Expr::Cast(to, operand) => {
             let e = expr(alloc, operand, around);
@@ -177,4 +174,34 @@ pub fn expr(alloc: Global, e: &Expr, around: &Around) -> Result<Typed, Refusal>
         }
         _ => Err(Refusal::Memory),
     }
+}
+
+/// The parts of a concatenation.
+#[cycle(elaborate)]
+fn joined(alloc: Global, items: &[Expr], around: &Around) -> Result<Seq<(Place, Typed)>, Refusal>
+    ensures { Gives result (arguments.parts_of (expressions.args (around_in around.now) [] (view.expr_list items.now))) }
+{
+    let args = args(alloc, items, around)?;
+    parts(alloc, args)
+}
+
+/// Arguments that are values, each behind those before it.
+#[cycle(elaborate)]
+fn args(alloc: Global, actuals: &[Expr], around: &Around) -> Result<Seq<Arg>, Refusal>
+    ensures ok { IfOk result (λ as'. as' ≡ expressions.args (around_in around.now) [] (view.expr_list actuals.now)) }
+    ensures err { IfErr result (λ e. e ≡ Memory) }
+{
+    let mut done = Seq::new(alloc);
+    let mut place = *around;
+    for e in actuals {
+        let text = literal_text(alloc, e)?;
+        let value = judged(expr(alloc, e, &place))?;
+        place = behind_value(&place, &value);
+        done.push(Arg {
+            at: place_of(e),
+            text,
+            taken: Taken::Value(value),
+        })?;
+    }
+    Ok(done)
 }
