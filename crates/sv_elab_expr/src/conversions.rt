@@ -96,7 +96,8 @@ fn to_text(
     at: Place,
     e: Result<Typed, Refusal>,
 ) -> Result<Typed, Refusal>
-    ensures { (ar : around_of) (x : checked typed) → Gives e x → Gives result (x ▷ operators.cast_to ar ty.Text place at) }
+    ensures { (ar : around_of) (x : checked typed) → Gives e x
+        → Gives result (x ▷ operators.cast_to ar ty.Text place at) }
 {
     match e {
         Ok(t) => text_of(alloc, place, at, t),
@@ -111,7 +112,8 @@ fn to_semaphore(
     at: Place,
     e: Result<Typed, Refusal>,
 ) -> Result<Typed, Refusal>
-    ensures { (ar : around_of) (x : checked typed) → Gives e x → Gives result (x ▷ operators.cast_to ar ty.Semaphore place at) }
+    ensures { (ar : around_of) (x : checked typed) → Gives e x
+        → Gives result (x ▷ operators.cast_to ar ty.Semaphore place at) }
 {
     match e {
         Ok(t) => semaphore_of(alloc, place, at, t),
@@ -126,7 +128,8 @@ fn to_mailbox(
     at: Place,
     e: Result<Typed, Refusal>,
 ) -> Result<Typed, Refusal>
-    ensures { (ar : around_of) (x : checked typed) → Gives e x → Gives result (x ▷ operators.cast_to ar ty.Mailbox place at) }
+    ensures { (ar : around_of) (x : checked typed) → Gives e x
+        → Gives result (x ▷ operators.cast_to ar ty.Mailbox place at) }
 {
     match e {
         Ok(t) => mailbox_of(alloc, place, at, t),
@@ -142,7 +145,8 @@ fn to_event(
     around: &Around,
     e: Result<Typed, Refusal>,
 ) -> Result<Typed, Refusal>
-    ensures { (x : checked typed) → Gives e x → Gives result (x ▷ operators.cast_to (around_in around.now) ty.Event place at) }
+    ensures { (x : checked typed) → Gives e x
+        → Gives result (x ▷ operators.cast_to (around_in around.now) ty.Event place at) }
 {
     match e {
         Ok(t) => event_of(alloc, place, at, around, t),
@@ -160,7 +164,8 @@ fn to_bit(
     at: Place,
     e: Result<Typed, Refusal>,
 ) -> Result<Typed, Refusal>
-    ensures { (ar : around_of) (x : checked typed) → Gives e x → Gives result (x ▷ operators.cast_to ar (types.plain_vector 1 false (operators.vector_word_four_state word)) place at) }
+    ensures { (ar : around_of) (x : checked typed) → Gives e x
+        → Gives result (x ▷ operators.cast_to ar (types.plain_vector 1 false (operators.vector_word_four_state word)) place at) }
 {
     let to = Integral {
         width: 1,
@@ -178,7 +183,8 @@ fn to_atom(
     at: Place,
     e: Result<Typed, Refusal>,
 ) -> Result<Typed, Refusal>
-    ensures { (ar : around_of) (x : checked typed) → Gives e x → Gives result (x ▷ operators.cast_to ar (ty.Vector (operators.atom_type word) (types.whole (operators.atom_type word).width) false) place at) }
+    ensures { (ar : around_of) (x : checked typed) → Gives e x
+        → Gives result (x ▷ operators.cast_to ar (ty.Vector (operators.atom_type word) (types.whole (operators.atom_type word).width) false) place at) }
 {
     let to = atom_type(word);
     cast_number(alloc, to, whole(to.width), place, at, e)
@@ -201,7 +207,8 @@ fn to_width(
     at: Place,
     e: Result<Typed, Refusal>,
 ) -> Result<Typed, Refusal>
-    ensures { (x : checked typed) → Gives e x → Gives result (both_of (values.constant_count written (operators.literal_typed written text.now)) x ▷ (λ q. operators.sized place at q.0 q.1)) }
+    ensures { (x : checked typed) → Gives e x
+        → Gives result (both_of (values.constant_count written (operators.literal_typed written text.now)) x ▷ (λ q. operators.sized place at q.0 q.1)) }
 {
     match both(width_written(alloc, written, text), e) {
         Ok((width, t)) => sized(alloc, place, at, width, t),
@@ -220,7 +227,8 @@ pub fn cast(
     around: &Around,
     e: Result<Typed, Refusal>,
 ) -> Result<Typed, Refusal>
-    ensures { (x : checked typed) → Gives e x → Gives result (expressions.cast_of (around_in around.now) to.now place at x) }
+    ensures { (x : checked typed) → Gives e x
+        → Gives result (expressions.cast_of (around_in around.now) to.now place at x) }
 {
     match to {
         CastType::Vector(_, word) => to_bit(alloc, *word, place, at, e),

@@ -131,23 +131,6 @@ pub fn signal_named<'a>(
 
 // ---- what follows a dot
 
-/// What follows a dot, where the thing before it breaks no rule.
-pub fn after_dot<'a>(
-    alloc: Global,
-    around: &Around<'a>,
-    place: Place,
-    name: &Name,
-    thing: Result<Thing<'a>, Refusal>,
-) -> Result<Thing<'a>, Refusal>
-    ensures { (x : checked thing_of) → GivesAs thing_in thing.entry x
-        → GivesAs thing_in result (x ▷ things.after_dot (around_in around.now) place name.now) }
-{
-    match thing {
-        Ok(thing) => thing.member(alloc, around, place, name),
-        Err(e) => Err(e),
-    }
-}
-
 // ---- `$`
 
 /// The number of items of a container.

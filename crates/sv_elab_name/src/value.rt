@@ -188,19 +188,3 @@ pub(crate) fn bare_subroutine(
         }
     }
 }
-
-/// A thing as a value, where it breaks no rule before.
-pub fn thing_value(
-    alloc: Global,
-    around: &Around,
-    place: Place,
-    thing: Result<Thing, Refusal>,
-) -> Result<Typed, Refusal>
-    ensures { (x : checked thing_of) → GivesAs thing_in thing.entry x
-        → Gives result (x ▷ things.thing_value (around_in around.now) place) }
-{
-    match thing {
-        Ok(thing) => thing.value(alloc, around, place),
-        Err(e) => Err(e),
-    }
-}

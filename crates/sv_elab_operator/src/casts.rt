@@ -144,7 +144,8 @@ pub fn cast_number(
     at: Place,
     e: Result<Typed, Refusal>,
 ) -> Result<Typed, Refusal>
-    ensures { (ar : around) (x : checked typed) → Gives e x → Gives result (x ▷ operators.cast_to ar (ty.Vector to bounds false) place at) }
+    ensures { (ar : around) (x : checked typed) → Gives e x
+        → Gives result (x ▷ operators.cast_to ar (ty.Vector to bounds false) place at) }
 {
     match e {
         Ok(t) => number_cast(

@@ -269,7 +269,8 @@ pub fn repeat(
     count: Result<u64, Refusal>,
     a: Result<Typed, Refusal>,
 ) -> Result<Typed, Refusal>
-    ensures { (n : checked ℕ) (x : checked typed) → Gives count n → Gives a x → Gives result (operators.repeat_of at n x) }
+    ensures { (n : checked ℕ) (x : checked typed) → Gives count n → Gives a x
+        → Gives result (operators.repeat_of at n x) }
 {
     match both(count, a) {
         Ok((count, t)) => repeat_judged(alloc, at, count, t),

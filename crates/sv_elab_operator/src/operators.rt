@@ -91,7 +91,8 @@ pub fn unary(
     place: Place,
     a: Result<Typed, Refusal>,
 ) -> Result<Typed, Refusal>
-    ensures { (x : checked typed) → Gives a x → Gives result (given (operators.unary_typed at op) (x ▷ values.number_operand place)) }
+    ensures { (x : checked typed) → Gives a x
+        → Gives result (given (operators.unary_typed at op) (x ▷ values.number_operand place)) }
 {
     match operand(place, a) {
         Ok(t) => unary_typed(alloc, at, op, t),
@@ -208,7 +209,8 @@ pub fn numbers(
     a: Result<Typed, Refusal>,
     b: Result<Typed, Refusal>,
 ) -> Result<Typed, Refusal>
-    ensures { (x y : checked typed) → Gives a x → Gives b y → Gives result (given (λ p. operators.binary_typed op left p.0 p.1)
+    ensures { (x y : checked typed) → Gives a x → Gives b y
+        → Gives result (given (λ p. operators.binary_typed op left p.0 p.1)
         (both_of (x ▷ values.number_operand left) (y ▷ values.number_operand right))) }
 {
     match both(operand(left, a), operand(right, b)) {
@@ -320,7 +322,8 @@ pub fn comparison(
     a: Result<Typed, Refusal>,
     b: Result<Typed, Refusal>,
 ) -> Result<Typed, Refusal>
-    ensures { (ar : around) (x y : checked typed) → ar.classes ≡ map (λ k. k.now) classes.now → Gives a x → Gives b y → Gives result
+    ensures { (ar : around) (x y : checked typed) → ar.classes ≡ map (λ k. k.now) classes.now → Gives a x → Gives b y
+        → Gives result
         (both_of (x ▷ values.one_item) (y ▷ values.one_item) ▷ (λ p. operators.comparable ar op left right p.0 p.1)) }
 {
     match both(item(a), item(b)) {

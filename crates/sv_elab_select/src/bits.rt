@@ -354,7 +354,8 @@ fn fixed_part_of(
     l: Result<Typed, Refusal>,
     r: Result<Typed, Refusal>,
 ) -> Result<Typed, Refusal>
-    ensures { (x y : checked typed) → Gives l x → Gives r y → Gives result (selects.part_of word_of.Fixed at whole left right a x y) }
+    ensures { (x y : checked typed) → Gives l x → Gives r y
+        → Gives result (selects.part_of word_of.Fixed at whole left right a x y) }
 {
     match both(with_bits(at, a), both(number(left, l), number(right, r))) {
         Ok(((bounds, a), (l, r))) => fixed_part(alloc, at, whole, left, bounds, a, l, r),
@@ -438,7 +439,8 @@ fn moving_part_of(
     l: Result<Typed, Refusal>,
     r: Result<Typed, Refusal>,
 ) -> Result<Typed, Refusal>
-    ensures { (x y : checked typed) → Gives l x → Gives r y → Gives result (parts.moving_part word at whole left right a x y) }
+    ensures { (x y : checked typed) → Gives l x → Gives r y
+        → Gives result (parts.moving_part word at whole left right a x y) }
 {
     match both(with_bits(at, a), both(index(left, l), counted(right, r))) {
         Ok(((bounds, a), (i, width))) => {
@@ -460,7 +462,8 @@ pub(crate) fn part_of(
     l: Result<Typed, Refusal>,
     r: Result<Typed, Refusal>,
 ) -> Result<Typed, Refusal>
-    ensures { (x y : checked typed) → Gives l x → Gives r y → Gives result (selects.part_of word at whole left right a x y) }
+    ensures { (x y : checked typed) → Gives l x → Gives r y
+        → Gives result (selects.part_of word at whole left right a x y) }
 {
     match word {
         PartWord::Fixed => fixed_part_of(alloc, at, whole, left, right, a, l, r),

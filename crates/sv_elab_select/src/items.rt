@@ -452,7 +452,8 @@ pub(crate) fn array_select(
     a: Typed,
     i: Result<Typed, Refusal>,
 ) -> Result<Typed, Refusal>
-    ensures { (x : checked typed) → Gives i x → Gives result ((x where_also parts.lasts (around_in around.now) a) ▷ parts.array_item (around_in around.now) at a) }
+    ensures { (x : checked typed) → Gives i x
+        → Gives result ((x where_also parts.lasts (around_in around.now) a) ▷ parts.array_item (around_in around.now) at a) }
 {
     let later = lasts(around, &a);
     match guarded(i, later) {

@@ -48,7 +48,8 @@ fn no_part(
     l: Result<Typed, Refusal>,
     r: Result<Typed, Refusal>,
 ) -> Result<Typed, Refusal>
-    ensures { (x y : checked typed) → Gives l x → Gives r y → Gives result (both_of (broken_at 14 at) (both_of x y) ▷ (λ p. Good p.0)) }
+    ensures { (x y : checked typed) → Gives l x → Gives r y
+        → Gives result (both_of (broken_at 14 at) (both_of x y) ▷ (λ p. Good p.0)) }
 {
     match both(no_bits(at), both(l, r)) {
         Ok((t, _)) => Ok(t),
@@ -70,7 +71,8 @@ pub fn part_select_of(
     l: Result<Typed, Refusal>,
     r: Result<Typed, Refusal>,
 ) -> Result<Typed, Refusal>
-    ensures { (x y : checked typed) → Gives l x → Gives r y → Gives result (selects.part_select_of word at whole left right a x y) }
+    ensures { (x y : checked typed) → Gives l x → Gives r y
+        → Gives result (selects.part_select_of word at whole left right a x y) }
 {
     if a.ty.is_array() {
         no_part(at, l, r)

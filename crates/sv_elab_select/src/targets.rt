@@ -38,7 +38,8 @@ fn net_stands(how: How, at: Place) -> Result<(), Refusal>
 
 /// E47: a signal of a clocking block is driven, where it is an output.
 fn signal_stands(how: How, t: &Typed, is_output: bool) -> Result<(), Refusal>
-    ensures { (at : place_of) (b : types.Path) (i : ℕ) → Gives result (targets.may_begin how at t.now (begin.Signal b i is_output)) }
+    ensures { (at : place_of) (b : types.Path) (i : ℕ)
+        → Gives result (targets.may_begin how at t.now (begin.Signal b i is_output)) }
 {
     match how {
         How::Drive => rule(47, t.at, !is_output || t.target.part.is_some()),
@@ -71,7 +72,8 @@ fn result_stands(how: How, at: Place, t: &Typed) -> Result<(), Refusal>
 /// E18, E26: what lasts no longer than an activation or an object is written by statements alone, and at once.
 fn inner_stands(how: How, at: Place) -> Result<(), Refusal>
     ensures inner { (t : typed) → Gives result (targets.may_begin how at t begin.InActivation) }
-    ensures property { (t : typed) (p : types.Path) → Gives result (targets.may_begin how at t (begin.StaticProperty p)) }
+    ensures property { (t : typed) (p : types.Path)
+        → Gives result (targets.may_begin how at t (begin.StaticProperty p)) }
 {
     match how {
         How::Statement => Ok(()),
