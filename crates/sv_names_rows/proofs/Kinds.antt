@@ -23,7 +23,7 @@ use Rattle.sv_tree.specs.Items as items
 use Rattle.sv_tree.specs.Descriptions as descriptions
 use Rattle.sv_tree.specs.Descriptions.{Description}
 use Rattle.sv_names.specs.Design.{broken}
-use Rattle.sv_names.proofs.Rows.Kit.{argument, at, blocking, class_, clocking, decl, declarator, event_part, fault, head, instance, instances, method, module_, name, number, param, plain, port, procedure, property, routine, sided, statements, system, target, typedef, unqualified, value}
+use Rattle.sv_names_rows.proofs.Kit.{argument, at, blocking, class_, clocking, decl, declarator, event_part, fault, head, instance, instances, method, module_, name, number, param, plain, port, procedure, property, routine, sided, statements, system, target, typedef, unqualified, value}
 
 -- module t; int x; initial x = T; typedef undef T; endmodule
 abbrev t1 : List Description

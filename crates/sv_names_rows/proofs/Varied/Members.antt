@@ -18,7 +18,7 @@ use Rattle.sv_tree.specs.Stmt as stmts
 use Rattle.sv_tree.specs.Items as items
 use Rattle.sv_tree.specs.Descriptions.{Description}
 use Rattle.sv_names.specs.Design.{broken, elaborated}
-use Rattle.sv_names.proofs.Rows.Kit.{at, blocking, decl, declarator, expressions, fault, lines, module_, name, nonblocking, number, operated, plain, procedure, seen_in, statements, system, target, text, Ran}
+use Rattle.sv_names_rows.proofs.Kit.{at, blocking, decl, declarator, expressions, fault, lines, module_, name, nonblocking, number, operated, plain, procedure, seen_in, statements, system, target, text, Ran}
 
 -- module t; int q[$], r[$], d[]; initial begin q.push_back(1); q.push_back(2); r = q; q[$] = 9; d = new[3]; d[1] = 4; d = new[5](d); $display("%0d %0d %0d %0d", r[1], q[$], d.size(), d[1]); q.insert(1, 5); q.delete(0); $display("%0d %0d", q[0], d[$-1]); end endmodule
 abbrev t1 : List Description

@@ -25,7 +25,7 @@ use Rattle.sv_tree.specs.Items as items
 use Rattle.sv_tree.specs.Descriptions as descriptions
 use Rattle.sv_tree.specs.Descriptions.{Description}
 use Rattle.sv_names.specs.Design.{broken, elaborated}
-use Rattle.sv_names.proofs.Rows.Kit.{argument, at, blocking, class_, clocking, decl, declarator, delay, enum_item, expressions, fault, head, instance, instances, lines, method, module_, name, nonblocking, number, param, plain, port, procedure, property, qualifiers, range, routine, seen_in, sided, statements, system, target, text, typedef, unqualified, value, Ran}
+use Rattle.sv_names_rows.proofs.Kit.{argument, at, blocking, class_, clocking, decl, declarator, delay, enum_item, expressions, fault, head, instance, instances, lines, method, module_, name, nonblocking, number, param, plain, port, procedure, property, qualifiers, range, routine, seen_in, sided, statements, system, target, text, typedef, unqualified, value, Ran}
 
 -- module t; logic [P:0] x; localparam P = $bits(x); endmodule
 abbrev t1 : List Description

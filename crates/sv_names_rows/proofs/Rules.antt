@@ -24,7 +24,7 @@ use Rattle.sv_tree.specs.Items as items
 use Rattle.sv_tree.specs.Descriptions as descriptions
 use Rattle.sv_tree.specs.Descriptions.{Description}
 use Rattle.sv_names.specs.Design.{broken}
-use Rattle.sv_names.proofs.Rows.Kit.{argument, assign_item, at, blocking, class_, clocking, decl, declarator, delay, enum_item, event_part, expressions, fault, head, instance, instances, method, module_, name, net, net_item, nonblocking, number, param, plain, port, procedure, property, pure_method, qualifiers, range, routine, scale, sided, statements, system, target, text, typedef, unqualified, value}
+use Rattle.sv_names_rows.proofs.Kit.{argument, assign_item, at, blocking, class_, clocking, decl, declarator, delay, enum_item, event_part, expressions, fault, head, instance, instances, method, module_, name, net, net_item, nonblocking, number, param, plain, port, procedure, property, pure_method, qualifiers, range, routine, scale, sided, statements, system, target, text, typedef, unqualified, value}
 
 -- E1: module t; endmodule module t; endmodule
 abbrev t1 : List Description

@@ -30,7 +30,7 @@ use Rattle.sv_tree.specs.Items as items
 use Rattle.sv_tree.specs.Descriptions as descriptions
 use Rattle.sv_tree.specs.Descriptions.{Description}
 use Rattle.sv_names.specs.Design.{elaborated}
-use Rattle.sv_names.proofs.Rows.Kit.{argument, assign_item, at, blocking, class_, decl, declarator, delay, enum_item, event_part, expressions, head, instance, instances, lines, method, module_, name, net, net_item, nonblocking, number, operated, param, plain, port, procedure, program_, property, pure_method, qualifiers, range, routine, seen_in, statements, system, target, targets, text, typedef, unqualified, value, Ran}
+use Rattle.sv_names_rows.proofs.Kit.{argument, assign_item, at, blocking, class_, decl, declarator, delay, enum_item, event_part, expressions, head, instance, instances, lines, method, module_, name, net, net_item, nonblocking, number, operated, param, plain, port, procedure, program_, property, pure_method, qualifiers, range, routine, seen_in, statements, system, target, targets, text, typedef, unqualified, value, Ran}
 
 -- module t; initial begin int f[3:0]; f[2] = 5; f[0] = 1; foreach (f[i]) $display("%0d %0d", i, f[i]); end endmodule
 abbrev t1 : List Description

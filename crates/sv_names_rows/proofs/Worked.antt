@@ -27,7 +27,7 @@ use Rattle.sv_tree.specs.Items as items
 use Rattle.sv_tree.specs.Descriptions as descriptions
 use Rattle.sv_tree.specs.Descriptions.{Description}
 use Rattle.sv_names.specs.Design.{broken, elaborated}
-use Rattle.sv_names.proofs.Rows.Kit.{argument, assign_item, at, blocking, class_, clocking, decl, declarator, delay, event_part, expressions, fault, head, instance, instances, lines, method, module_, name, nested, net, net_item, nonblocking, number, param, plain, port, procedure, program_, property, qualifiers, range, routine, seen_in, sided, statements, system, target, text, unqualified, value, Ran}
+use Rattle.sv_names_rows.proofs.Kit.{argument, assign_item, at, blocking, class_, clocking, decl, declarator, delay, event_part, expressions, fault, head, instance, instances, lines, method, module_, name, nested, net, net_item, nonblocking, number, param, plain, port, procedure, program_, property, qualifiers, range, routine, seen_in, sided, statements, system, target, text, unqualified, value, Ran}
 
 -- module t; initial $display("hi"); endmodule
 abbrev t1 : List Description

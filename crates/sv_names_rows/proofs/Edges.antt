@@ -29,7 +29,7 @@ use Rattle.sv_tree.specs.Items as items
 use Rattle.sv_tree.specs.Descriptions as descriptions
 use Rattle.sv_tree.specs.Descriptions.{Description}
 use Rattle.sv_names.specs.Design.{broken, elaborated}
-use Rattle.sv_names.proofs.Rows.Kit.{argument, assign_item, at, blocking, class_, clocking, decl, declarator, delay, enum_item, event_part, expressions, fault, head, lines, method, module_, name, net, net_item, nonblocking, number, param, plain, port, procedure, program_, property, qualifiers, range, routine, scale, seen_in, sided, statements, system, target, text, typedef, unqualified, value, Ran}
+use Rattle.sv_names_rows.proofs.Kit.{argument, assign_item, at, blocking, class_, clocking, decl, declarator, delay, enum_item, event_part, expressions, fault, head, lines, method, module_, name, net, net_item, nonblocking, number, param, plain, port, procedure, program_, property, qualifiers, range, routine, scale, seen_in, sided, statements, system, target, text, typedef, unqualified, value, Ran}
 
 -- class C; endclass module t; C h; initial h = new; endmodule
 abbrev t1 : List Description

@@ -21,7 +21,7 @@ use Rattle.sv_tree.specs.Items as items
 use Rattle.sv_tree.specs.Descriptions as descriptions
 use Rattle.sv_tree.specs.Descriptions.{Description}
 use Rattle.sv_names.specs.Design.{broken}
-use Rattle.sv_names.proofs.Rows.Kit.{argument, assign_item, at, blocking, class_, decl, declarator, delay, enum_item, event_part, expressions, fault, head, instance, instances, method, module_, name, net, net_item, nonblocking, number, operated, plain, port, procedure, property, qualifiers, range, routine, statements, system, target, targets, text, unqualified}
+use Rattle.sv_names_rows.proofs.Kit.{argument, assign_item, at, blocking, class_, decl, declarator, delay, enum_item, event_part, expressions, fault, head, instance, instances, method, module_, name, net, net_item, nonblocking, number, operated, plain, port, procedure, property, qualifiers, range, routine, statements, system, target, targets, text, unqualified}
 
 -- module t; logic [3:0] a, b; logic a; always @* c = a[1] & b[0]; initial begin a = 0; b = 1; #1 a[1] = 1; #1 $display("%b", c); end endmodule
 abbrev t1 : List Description

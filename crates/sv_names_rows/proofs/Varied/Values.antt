@@ -24,7 +24,7 @@ use Rattle.sv_tree.specs.Items as items
 use Rattle.sv_tree.specs.Descriptions as descriptions
 use Rattle.sv_tree.specs.Descriptions.{Description}
 use Rattle.sv_names.specs.Design.{broken}
-use Rattle.sv_names.proofs.Rows.Kit.{assign_item, at, blocking, class_, clocking, decl, declarator, delay, enum_item, expressions, fault, head, instance, instances, method, module_, name, net, net_item, nonblocking, number, param, plain, port, procedure, program_, property, pure_method, range, routine, sided, statements, system, target, text, typedef, unqualified, value}
+use Rattle.sv_names_rows.proofs.Kit.{assign_item, at, blocking, class_, clocking, decl, declarator, delay, enum_item, expressions, fault, head, instance, instances, method, module_, name, net, net_item, nonblocking, number, param, plain, port, procedure, program_, property, pure_method, range, routine, sided, statements, system, target, text, typedef, unqualified, value}
 
 -- module t; logic [7:0] a; initial begin a = 8'd3 ** 2; $display("%0d %0d %0d", a, 2 ** 5, $clog2(9)); $display("%0d", $bits(a) + $bits()); end endmodule
 abbrev t1 : List Description

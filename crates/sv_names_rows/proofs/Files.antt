@@ -22,7 +22,7 @@ use Rattle.sv_tree.specs.Items as items
 use Rattle.sv_tree.specs.Descriptions as descriptions
 use Rattle.sv_tree.specs.Descriptions.{Description}
 use Rattle.sv_names.specs.Design.{broken, elaborated}
-use Rattle.sv_names.proofs.Rows.Kit.{argument, assign_item, at, blocking, class_, clocking, decl, declarator, delay, enum_item, expressions, fault, head, instance, instances, lines, method, module_, name, number, param, plain, port, procedure, program_, property, qualifiers, range, routine, scale, seen_in, statements, system, target, text, typedef, unqualified, value, Ran}
+use Rattle.sv_names_rows.proofs.Kit.{argument, assign_item, at, blocking, class_, clocking, decl, declarator, delay, enum_item, expressions, fault, head, instance, instances, lines, method, module_, name, number, param, plain, port, procedure, program_, property, qualifiers, range, routine, scale, seen_in, statements, system, target, text, typedef, unqualified, value, Ran}
 
 -- `timescale 1ns/1us
 -- module t; endmodule

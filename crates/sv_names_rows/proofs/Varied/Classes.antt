@@ -20,7 +20,7 @@ use Rattle.sv_tree.specs.Items as items
 use Rattle.sv_tree.specs.Descriptions as descriptions
 use Rattle.sv_tree.specs.Descriptions.{Description}
 use Rattle.sv_names.specs.Design.{broken}
-use Rattle.sv_names.proofs.Rows.Kit.{argument, at, blocking, class_, decl, declarator, expressions, fault, head, method, module_, name, nonblocking, number, operated, plain, procedure, property, pure_method, qualifiers, routine, statements, system, target, text, unqualified}
+use Rattle.sv_names_rows.proofs.Kit.{argument, at, blocking, class_, decl, declarator, expressions, fault, head, method, module_, name, nonblocking, number, operated, plain, procedure, property, pure_method, qualifiers, routine, statements, system, target, text, unqualified}
 
 -- module t; class C; int a[2]; int b = 7; string s[3]; function void set(int i, int v); a[i] = v; s[i] = "x"; endfunction endclass C c; initial begin c = new; c.set(1, 4); c.a[0] = c.c[1] + c.b; $display("%0d %0d %0d %s|%s", c.a[0], c.a[1], c.b, c.s[1], c.s[0]); end endmodule
 abbrev t1 : List Description

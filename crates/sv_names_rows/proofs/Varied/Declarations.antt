@@ -23,7 +23,7 @@ use Rattle.sv_tree.specs.Items as items
 use Rattle.sv_tree.specs.Descriptions as descriptions
 use Rattle.sv_tree.specs.Descriptions.{Description}
 use Rattle.sv_names.specs.Design.{broken, elaborated}
-use Rattle.sv_names.proofs.Rows.Kit.{argument, at, blocking, class_, decl, declarator, enum_item, expressions, fault, head, lines, method, module_, name, nonblocking, number, operated, plain, procedure, property, qualifiers, range, routine, seen_in, statements, system, target, text, typedef, unqualified, Ran}
+use Rattle.sv_names_rows.proofs.Kit.{argument, at, blocking, class_, decl, declarator, enum_item, expressions, fault, head, lines, method, module_, name, nonblocking, number, operated, plain, procedure, property, qualifiers, range, routine, seen_in, statements, system, target, text, typedef, unqualified, Ran}
 
 -- module t; initial begin int f[3:null]; f[2] = 5; f[0] = 1; foreach (f[i]) $display("%0d %0d", i, f[i]); end endmodule
 abbrev t1 : List Description

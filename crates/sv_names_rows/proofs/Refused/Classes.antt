@@ -20,7 +20,7 @@ use Rattle.sv_tree.specs.Items as items
 use Rattle.sv_tree.specs.Descriptions as descriptions
 use Rattle.sv_tree.specs.Descriptions.{Description}
 use Rattle.sv_names.specs.Design.{broken, elaborated}
-use Rattle.sv_names.proofs.Rows.Kit.{argument, at, blocking, class_, decl, declarator, expressions, fault, head, lines, method, module_, name, number, plain, procedure, property, pure_method, qualifiers, routine, seen_in, system, target, unqualified, Ran}
+use Rattle.sv_names_rows.proofs.Kit.{argument, at, blocking, class_, decl, declarator, expressions, fault, head, lines, method, module_, name, number, plain, procedure, property, pure_method, qualifiers, routine, seen_in, system, target, unqualified, Ran}
 
 -- module t; class C; endclass C c = new; endmodule
 abbrev t1 : List Description

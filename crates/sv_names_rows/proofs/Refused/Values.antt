@@ -22,7 +22,7 @@ use Rattle.sv_tree.specs.Items as items
 use Rattle.sv_tree.specs.Descriptions as descriptions
 use Rattle.sv_tree.specs.Descriptions.{Description}
 use Rattle.sv_names.specs.Design.{broken, elaborated}
-use Rattle.sv_names.proofs.Rows.Kit.{argument, at, blocking, class_, clocking, decl, declarator, enum_item, expressions, fault, head, instance, instances, lines, method, module_, name, nonblocking, number, param, plain, port, procedure, program_, property, pure_method, qualifiers, range, routine, seen_in, sided, statements, system, target, text, typedef, unqualified, value, Ran}
+use Rattle.sv_names_rows.proofs.Kit.{argument, at, blocking, class_, clocking, decl, declarator, enum_item, expressions, fault, head, instance, instances, lines, method, module_, name, nonblocking, number, param, plain, port, procedure, program_, property, pure_method, qualifiers, range, routine, seen_in, sided, statements, system, target, text, typedef, unqualified, value, Ran}
 
 -- module t; parameter string S = 3; endmodule
 abbrev t1 : List Description

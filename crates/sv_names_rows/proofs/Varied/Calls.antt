@@ -20,7 +20,7 @@ use Rattle.sv_tree.specs.Items as items
 use Rattle.sv_tree.specs.Descriptions as descriptions
 use Rattle.sv_tree.specs.Descriptions.{Description}
 use Rattle.sv_names.specs.Design.{broken}
-use Rattle.sv_names.proofs.Rows.Kit.{argument, at, blocking, class_, decl, declarator, delay, expressions, fault, head, module_, name, nonblocking, number, operated, param, plain, procedure, property, qualifiers, range, routine, statements, system, target, text, typedef, unqualified, value}
+use Rattle.sv_names_rows.proofs.Kit.{argument, at, blocking, class_, decl, declarator, delay, expressions, fault, head, module_, name, nonblocking, number, operated, param, plain, procedure, property, qualifiers, range, routine, statements, system, target, text, typedef, unqualified, value}
 
 -- module t; function int f(int n); f = n; if (n > 1) f = n * f(n ** 1); endfunction initial $display("%0d", f(4)); endmodule
 abbrev t1 : List Description

@@ -17,7 +17,7 @@ use Rattle.sv_tree.specs.Stmt as stmts
 use Rattle.sv_tree.specs.Items as items
 use Rattle.sv_tree.specs.Descriptions.{Description}
 use Rattle.sv_names.specs.Design.{broken, elaborated}
-use Rattle.sv_names.proofs.Rows.Kit.{at, blocking, decl, declarator, delay, event_part, expressions, fault, lines, module_, name, number, plain, procedure, seen_in, system, target, text, Ran}
+use Rattle.sv_names_rows.proofs.Kit.{at, blocking, decl, declarator, delay, event_part, expressions, fault, lines, module_, name, number, plain, procedure, seen_in, system, target, text, Ran}
 
 -- module t; initial $display("%"); endmodule
 abbrev t1 : List Description

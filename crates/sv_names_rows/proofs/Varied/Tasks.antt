@@ -18,7 +18,7 @@ use Rattle.sv_tree.specs.Items as items
 use Rattle.sv_tree.specs.Descriptions as descriptions
 use Rattle.sv_tree.specs.Descriptions.{Description}
 use Rattle.sv_names.specs.Design.{broken}
-use Rattle.sv_names.proofs.Rows.Kit.{at, blocking, decl, declarator, delay, expressions, fault, module_, name, number, plain, procedure, statements, system, target, text}
+use Rattle.sv_names_rows.proofs.Kit.{at, blocking, decl, declarator, delay, expressions, fault, module_, name, number, plain, procedure, statements, system, target, text}
 
 -- module t; initial begin : b static int n = 4; automatic int m = n ** 1; begin int k; k = m; $display("%0d %0d", n, k); end end endmodule
 abbrev t1 : List Description

@@ -21,7 +21,7 @@ use Rattle.sv_tree.specs.Items as items
 use Rattle.sv_tree.specs.Descriptions as descriptions
 use Rattle.sv_tree.specs.Descriptions.{Description}
 use Rattle.sv_names.specs.Design.{broken}
-use Rattle.sv_names.proofs.Rows.Kit.{assign_item, at, blocking, class_, decl, declarator, enum_item, event_part, fault, head, instance, instances, method, module_, name, net, net_item, nonblocking, number, operated, param, plain, port, procedure, property, qualifiers, range, routine, statements, target, targets, unqualified, value}
+use Rattle.sv_names_rows.proofs.Kit.{assign_item, at, blocking, class_, decl, declarator, enum_item, event_part, fault, head, instance, instances, method, module_, name, net, net_item, nonblocking, number, operated, param, plain, port, procedure, property, qualifiers, range, routine, statements, target, targets, unqualified, value}
 
 -- module t; wire [3:0] w; initial w[0] <= 1; endmodule
 abbrev t1 : List Description

@@ -27,7 +27,7 @@ use Rattle.sv_tree.specs.Items as items
 use Rattle.sv_tree.specs.Descriptions as descriptions
 use Rattle.sv_tree.specs.Descriptions.{Description}
 use Rattle.sv_names.specs.Design.{broken, elaborated}
-use Rattle.sv_names.proofs.Rows.Kit.{argument, assign_item, at, blocking, class_, clocking, decl, declarator, delay, enum_item, expressions, fault, head, lines, method, module_, name, nonblocking, number, param, plain, procedure, property, qualifiers, range, routine, seen_in, sided, statements, system, target, targets, text, typedef, unqualified, value, Ran}
+use Rattle.sv_names_rows.proofs.Kit.{argument, assign_item, at, blocking, class_, clocking, decl, declarator, delay, enum_item, expressions, fault, head, lines, method, module_, name, nonblocking, number, param, plain, procedure, property, qualifiers, range, routine, seen_in, sided, statements, system, target, targets, text, typedef, unqualified, value, Ran}
 
 -- module t; int a = 1, b = 0; initial $display("%b %b %b", 8'(a / b), {a / b}, a / b); endmodule
 abbrev t1 : List Description

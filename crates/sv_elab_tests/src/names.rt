@@ -1,11 +1,11 @@
 // The earlier of two faults, types told apart, and look-up through scopes.
-use crate::{
-    Checked, Declarations, Element, Found, Kind, Known, Named, Path, Refusal, Scope, Ty, both,
-    declared_from, declared_in, first, int_type, plain_vector, selectable,
-};
 use std::alloc::Global;
 use std::test::Fail;
 use sv_flat::Bounds;
+use sv_names::{
+    Checked, Declarations, Element, Found, Kind, Known, Named, Path, Refusal, Scope, Ty, both,
+    declared_from, declared_in, first, int_type, plain_vector, selectable,
+};
 use sv_tree::Name;
 use sv_value::{Excerpt, NoMemory, Place, Seq, Text};
 

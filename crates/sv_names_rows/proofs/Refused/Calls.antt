@@ -21,7 +21,7 @@ use Rattle.sv_tree.specs.Units as units
 use Rattle.sv_tree.specs.Items as items
 use Rattle.sv_tree.specs.Descriptions.{Description}
 use Rattle.sv_names.specs.Design.{broken, elaborated}
-use Rattle.sv_names.proofs.Rows.Kit.{argument, at, blocking, class_, decl, declarator, delay, event_part, expressions, fault, head, lines, module_, name, nonblocking, number, plain, procedure, property, qualifiers, routine, seen_in, statements, system, target, text, unqualified, Ran}
+use Rattle.sv_names_rows.proofs.Kit.{argument, at, blocking, class_, decl, declarator, delay, event_part, expressions, fault, head, lines, module_, name, nonblocking, number, plain, procedure, property, qualifiers, routine, seen_in, statements, system, target, text, unqualified, Ran}
 
 -- module t; int x, y; initial x = new y; endmodule
 abbrev t1 : List Description

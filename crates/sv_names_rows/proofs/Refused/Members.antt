@@ -13,7 +13,7 @@ use Rattle.sv_tree.specs.Stmt as stmts
 use Rattle.sv_tree.specs.Items as items
 use Rattle.sv_tree.specs.Descriptions.{Description}
 use Rattle.sv_names.specs.Design.{broken}
-use Rattle.sv_names.proofs.Rows.Kit.{at, blocking, decl, declarator, enum_item, expressions, fault, module_, name, number, plain, procedure, target, text, typedef}
+use Rattle.sv_names_rows.proofs.Kit.{at, blocking, decl, declarator, enum_item, expressions, fault, module_, name, number, plain, procedure, target, text, typedef}
 
 -- module t; int x; initial x.y = 1; endmodule
 abbrev t1 : List Description

@@ -19,7 +19,7 @@ use Rattle.sv_tree.specs.Units as units
 use Rattle.sv_tree.specs.Items as items
 use Rattle.sv_tree.specs.Descriptions.{Description}
 use Rattle.sv_names.specs.Design.{broken}
-use Rattle.sv_names.proofs.Rows.Kit.{assign_item, at, blocking, clocking, decl, declarator, delay, event_part, fault, module_, name, nonblocking, number, plain, port, procedure, program_, range, sided, statements, target}
+use Rattle.sv_names_rows.proofs.Kit.{assign_item, at, blocking, clocking, decl, declarator, delay, event_part, fault, module_, name, nonblocking, number, plain, port, procedure, program_, range, sided, statements, target}
 
 -- program p(input logic c, d, output logic [3:0] y); clocking cb @(posedge c); input d; output y; endclocking initial begin cb.y = 1; end endprogram
 abbrev t1 : List Description
