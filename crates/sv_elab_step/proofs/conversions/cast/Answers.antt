@@ -7,7 +7,7 @@ use Rattle.sv_names.specs.Operators.{literal_typed, sized}
 use Rattle.sv_names.specs.Expressions.{cast_of}
 use Rattle.sv_names.specs.Views.{around_in}
 use Rattle.sv_names.specs.Given.{Gives}
-use Rattle.sv_elab_expr.proofs.conversions.cast.Goals as goal
+use Rattle.sv_elab_step.proofs.conversions.cast.Goals as goal
 
 pub returns-in-Vector : goal.returns-in-Vector
 returns-in-Vector c x h =

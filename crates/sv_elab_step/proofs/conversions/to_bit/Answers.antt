@@ -3,7 +3,7 @@ use Rattle.sv_names.specs.Checked.{◌▷◌}
 use Rattle.sv_names.specs.Operators as operators
 use Rattle.sv_names.specs.Types as types
 use Rattle.sv_names.specs.Given.{Gives}
-use Rattle.sv_elab_expr.proofs.conversions.to_bit.Goals as goal
+use Rattle.sv_elab_step.proofs.conversions.to_bit.Goals as goal
 
 pub returns : goal.returns
 returns c ar x h =
