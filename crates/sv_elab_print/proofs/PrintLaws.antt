@@ -1,5 +1,5 @@
 -- What is printed, one part after another.
-use Rattle.std.proofs.Common.{ℕ, zero, suc, ◌≡◌, ◌≤◌, Bool, true, false, List, [], ◌∷◌, ◌++◌, length, Option, Some, None, refl, sym, ap, ◌∙◌, append_assoc, append-nil, arith}
+use Rattle.std.proofs.Common.{ℕ, zero, suc, ◌≡◌, ◌≤◌, Bool, true, false, List, [], ◌∷◌, length, Option, Some, None, refl, sym, ap, subst, ◌∙◌, append_assoc, append-nil, arith}
 use Rattle.std.specs.Prelude.{if◌then◌else◌}
 use Rattle.sv_value.specs.declared.place.Place.{Place}
 use Rattle.sv_value.specs.declared.operator.Piece.{Piece}
@@ -11,7 +11,7 @@ use Rattle.sv_names.specs.declared.checked.Checked.TheVariants.{Good, Broken}
 use Rattle.sv_names.specs.Checked.{comes_before, broken_at}
 use Rattle.sv_names.specs.Formats.{Printed, and_then, filled, rest_after, by_itself, format_of_arg, shown_first, printed, all_printed}
 use Rattle.sv_names.proofs.Earlier.{earlier_assoc}
-use Rattle.sv_elab_print.specs.Printing.{part_filled, left_behind, format_shown, shown_alone, behind_shown}
+use Rattle.sv_elab_print.specs.Printing.{part_filled, left_behind, shown_alone, behind_shown}
 
 -- ---- how it is grouped
 
@@ -129,3 +129,12 @@ shown_step c done a args left f e h l =
     (λ i. and_then ((h ∙ ap (λ (g : Option (Option (List Piece))). and_then done (shown_alone a args g)) e) i) (all_printed ((l ∙ ap (behind_shown args) e) i)))
     ∙ then_grouped done (shown_alone a args own) (all_printed (behind_shown args own))
     ∙ ap (and_then done) (one_shown a args)
+
+-- none of the arguments behind it is new
+shown_shorter : (args : List Arg) (f : Option (Option (List Piece))) → length (behind_shown args f) ≤ length args
+shown_shorter args None = omega arith
+shown_shorter args (Some None) = omega arith
+shown_shorter args (Some (Some ss)) = rest_shorter ss args
+
+pub shown_fewer : (args left : List Arg) (f : Option (Option (List Piece))) → left ≡ behind_shown args f → length left ≤ length args
+shown_fewer args left f l = subst (λ (as' : List Arg). length as' ≤ length args) (sym l) (shown_shorter args f)

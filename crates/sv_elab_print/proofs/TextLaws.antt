@@ -96,7 +96,7 @@ after_broken f (Good u) go = refl
 after_broken f (Broken g) go = refl
 
 -- what it gives, by the format that its first argument is
-by_format : Place → Place → List Arg → Option (List Piece) → Checked Typed
+abbrev by_format : Place → Place → List Arg → Option (List Piece) → Checked Typed
 by_format at place args None = broken_at 50 place where_also values_stand args
 by_format at place args (Some ss) = formatted at place ss args
 

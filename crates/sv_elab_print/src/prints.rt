@@ -1,5 +1,5 @@
 // What is printed (IEEE 1800-2017, 21.2.1): E42, E50.
-ghost use Rattle.std.specs.Prelude.{◌≡◌, ◌∷◌, IfOk, IfErr};
+ghost use Rattle.std.specs.Prelude.{◌≡◌, ◌≤◌, ◌∷◌, length, IfOk, IfErr};
 ghost use Rattle.std.specs.Vec.Iter.{into_iter_items};
 ghost use Rattle.sv_names.specs.declared.refusal.Refusal.TheVariants.{Memory};
 ghost use Rattle.sv_names.specs.Formats as formats;
@@ -106,6 +106,7 @@ fn and_shown(
 ) -> Result<Checked<Printed>, Refusal>
     ensures ok { IfOk result (λ c. formats.and_then c (formats.all_printed (into_iter_items args.new))
         ≡ formats.and_then done (formats.all_printed (a ∷ into_iter_items args.old))) }
+    ensures fewer { IfOk result (λ _. length (into_iter_items args.new) ≤ length (into_iter_items args.old)) }
     ensures err { IfErr result (λ e. e ≡ Memory) }
 {
     let format = format_of_arg(alloc, &a)?;

@@ -12,7 +12,7 @@ pub returns : goal.returns
 returns c =
     let done = c.loop-a.printed in
     let nothing : into_iter_items c.loop-a.left ≡ [] =
-    nil_from_length (into_iter_items c.loop-a.left) (sym c.loop-a.left.rest.ok.0 ∙ c.in-None.ensures.cases.0) in
+    nil_from_length (into_iter_items c.loop-a.left) (sym c.loop-a.left.rest.ok.0 ∙ (c.in_default.ensures.cases).0) in
     subst (λ (p : Checked Printed). Gives c.answer.result p)
     (sym (then_last done)
     ∙ sym (ap (λ (as' : List Arg). and_then done (all_printed as')) nothing)

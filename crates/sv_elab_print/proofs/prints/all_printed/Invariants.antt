@@ -1,5 +1,5 @@
-use Rattle.std.proofs.Common.{◌≡◌}
-use Rattle.std.specs.Vec.Iter.{into_iter_items, into_iter_len}
+use Rattle.std.proofs.Common.{◌≡◌, length}
+use Rattle.std.specs.Vec.Iter.{into_iter_items}
 use Rattle.sv_names.specs.Formats.{and_then, all_printed}
 use Rattle.sv_elab_print.proofs.prints.all_printed.Given as goal
 
@@ -9,4 +9,4 @@ invariant-loop-a l =
     ≡ and_then l.initial.printed (all_printed (into_iter_items l.initial.left))
 
 abbrev pub decreases-loop-a : goal.decreases-loop-a
-decreases-loop-a l = into_iter_len l.left
+decreases-loop-a l = length (into_iter_items l.left)

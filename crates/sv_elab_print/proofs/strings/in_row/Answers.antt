@@ -4,7 +4,7 @@ use Rattle.sv_flat.specs.Expr as flat
 use Rattle.sv_names.specs.declared.hoisted.Hoisted.{Hoisted}
 use Rattle.sv_names.specs.Hoisted.{in_row}
 use Rattle.sv_elab_print.specs.Printing.{rows}
-use Rattle.sv_elab_print.proofs.TextLaws.{row_grows, row_ends}
+use Rattle.sv_elab_print.proofs.TextLaws.{row_ends}
 use Rattle.sv_elab_print.proofs.strings.in_row.Goals as goal
 
 pub returns-clause-ok : goal.returns-clause-ok

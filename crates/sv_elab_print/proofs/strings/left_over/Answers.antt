@@ -10,5 +10,5 @@ pub returns-clause-ok : goal.returns-clause-ok
 returns-clause-ok c =
     let done = c.loop-a.printed in
     let nothing : into_iter_items c.loop-a.left ≡ [] =
-    nil_from_length (into_iter_items c.loop-a.left) (sym c.loop-a.left.rest.ok.0 ∙ c.in-None.ensures.cases.0) in
+    nil_from_length (into_iter_items c.loop-a.left) (sym c.loop-a.left.rest.ok.0 ∙ (c.in_default.ensures.cases).0) in
     sym (then_last done) ∙ sym (ap (λ (as' : List Arg). and_then done (left_over as')) nothing) ∙ c.loop-a.invariant

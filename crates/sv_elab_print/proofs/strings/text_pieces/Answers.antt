@@ -3,7 +3,6 @@ use Rattle.std.specs.Vec.Iter.{into_iter_items}
 use Rattle.std.proofs.lemmas.List.{nil_from_length}
 use Rattle.sv_value.specs.declared.operator.Piece.{Piece}
 use Rattle.sv_names.specs.Formats.{text_pieces}
-use Rattle.sv_elab_print.proofs.TextLaws.{text_step, text_end}
 use Rattle.sv_elab_print.proofs.strings.text_pieces.Goals as goal
 
 pub returns-clause-ok : goal.returns-clause-ok
