@@ -202,7 +202,8 @@ fn and_part(
     piece: Piece,
     args: &mut vec::IntoIter<Arg>,
 ) -> Result<Checked<Printed>, Refusal>
-    ensures ok { IfOk result (λ c. (ss : List piece_of) → formats.and_then c (formats.filled at ss (into_iter_items args.new))
+    ensures ok { IfOk result (λ c. (ss : List piece_of)
+        → formats.and_then c (formats.filled at ss (into_iter_items args.new))
         ≡ formats.and_then done (formats.filled at (piece ∷ ss) (into_iter_items args.old))) }
     ensures rest { (ss : List piece_of) → formats.rest_after ss (into_iter_items args.new)
         ≡ formats.rest_after (piece ∷ ss) (into_iter_items args.old) }

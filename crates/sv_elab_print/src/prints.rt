@@ -63,8 +63,10 @@ fn and_format(
     parts: Option<Seq<Piece>>,
     args: &mut vec::IntoIter<Arg>,
 ) -> Result<Checked<Printed>, Refusal>
-    ensures ok { IfOk result (λ c. c ≡ formats.and_then done (printing.format_shown at (into_iter_items args.old) parts)) }
-    ensures rest { IfOk result (λ _. into_iter_items args.new ≡ printing.behind_format (into_iter_items args.old) parts) }
+    ensures ok { IfOk result (λ c. c
+        ≡ formats.and_then done (printing.format_shown at (into_iter_items args.old) parts)) }
+    ensures rest { IfOk result (λ _. into_iter_items args.new
+        ≡ printing.behind_format (into_iter_items args.old) parts) }
     ensures err { IfErr result (λ e. e ≡ Memory) }
 {
     match parts {
@@ -84,8 +86,10 @@ fn shown_alone(
     format: Option<Option<Seq<Piece>>>,
     args: &mut vec::IntoIter<Arg>,
 ) -> Result<Checked<Printed>, Refusal>
-    ensures ok { IfOk result (λ c. c ≡ formats.and_then done (printing.shown_alone a (into_iter_items args.old) format)) }
-    ensures rest { IfOk result (λ _. into_iter_items args.new ≡ printing.behind_shown (into_iter_items args.old) format) }
+    ensures ok { IfOk result (λ c. c
+        ≡ formats.and_then done (printing.shown_alone a (into_iter_items args.old) format)) }
+    ensures rest { IfOk result (λ _. into_iter_items args.new
+        ≡ printing.behind_shown (into_iter_items args.old) format) }
     ensures err { IfErr result (λ e. e ≡ Memory) }
 {
     match format {

@@ -60,7 +60,8 @@ fn text_first(
     values: &mut vec::IntoIter<Expr>,
 ) -> Result<Option<Expr>, Refusal>
     ensures ok { IfOk result (λ e. e ≡ printing.text_first piece (into_iter_items values.old)) }
-    ensures rest { IfOk result (λ _. into_iter_items values.new ≡ printing.left_behind piece (into_iter_items values.old)) }
+    ensures rest { IfOk result (λ _. into_iter_items values.new
+        ≡ printing.left_behind piece (into_iter_items values.old)) }
     ensures err { IfErr result (λ e. e ≡ Memory) }
 {
     match piece {
@@ -267,7 +268,8 @@ fn string_of(
     is_constant: bool,
     printed: Result<Printed, Refusal>,
 ) -> Result<Typed, Refusal>
-    ensures { (x : checked formats.Printed) → Gives printed x → Gives result (given (printing.string_of at is_constant) x) }
+    ensures { (x : checked formats.Printed) → Gives printed x
+        → Gives result (given (printing.string_of at is_constant) x) }
 {
     match printed {
         Ok(printed) => {
