@@ -1,1 +1,3 @@
 mod SpotLaws
+mod SystemLaws
+mod TypeLaws
