@@ -1,0 +1,22 @@
+-- Messages of mailboxes whose type is not known.
+use Rattle.std.proofs.Common.{◌≡◌, refl}
+use Rattle.sv_value.specs.declared.place.Place.{Place}
+use Rattle.sv_names.specs.declared.checked.Checked.TheVariants.{Good}
+use Rattle.sv_names.specs.declared.element.Element.{Element}
+use Rattle.sv_names.specs.declared.ty.Ty.{Ty}
+use Rattle.sv_names.specs.declared.ty.Ty.TheVariants.{MailboxOf}
+use Rattle.sv_names.specs.declared.typed.Typed.{Typed}
+use Rattle.sv_names.specs.Calls.{message_of, may_receive}
+use Rattle.sv_names.specs.Checked.{fine}
+use Rattle.sv_names.specs.Named.{Around}
+use Rattle.sv_elab_method.specs.Steps.{any_message}
+
+-- such a mailbox takes messages of any type
+pub message_other : (ar : Around) (m : Ty) (at : Place) (x : Typed) → ((t : Element) → m ≡ MailboxOf t → ⊥) → message_of ar m at x ≡ any_message ar at x
+message_other ar (MailboxOf t) at x other = absurd (other t refl)
+message_other ar m at x other = refl
+
+-- and a variable of any type gets one
+pub receive_other : (m : Ty) (at : Place) (v : Typed) → ((t : Element) → m ≡ MailboxOf t → ⊥) → may_receive m at v ≡ fine
+receive_other (MailboxOf t) at v other = absurd (other t refl)
+receive_other m at v other = refl
