@@ -1,5 +1,5 @@
 -- The items of an enum, one declaration after another.
-use Rattle.std.proofs.Common.{◌≡◌, Bool, true, false, List, [], ◌∷◌, ◌++◌, map, Option, refl, ap, ◌∙◌}
+use Rattle.std.proofs.Common.{◌≡◌, ℕ, suc, ◌+◌, ◌<◌, Bool, true, false, List, [], ◌∷◌, ◌++◌, length, get_or, drop, map, Option, refl, ap, sym, ◌∙◌, add-one, drop-cons}
 use Rattle.std.specs.Prelude.{if◌then◌else◌}
 use Rattle.sv_value.specs.declared.place.Place.{Place}
 use Rattle.sv_value.specs.declared.val.Integral.{Integral}
@@ -39,7 +39,7 @@ one_before at k ks =
     ∙ ap (λ (c : Checked (List NamedItem)). if is_item_at at k.kind then c else items_known at ks) (item_before k.value (item_named k.name) (items_known at ks))
 
 -- an item behind a list stands before those of later declarations
-pub known_next : (list : Checked (List NamedItem)) (at : Place) (k : Known) (ks : List Known)
+known_next : (list : Checked (List NamedItem)) (at : Place) (k : Known) (ks : List Known)
     → joined (joined list (one_known at k)) (items_known at ks) ≡ joined list (items_known at (k ∷ ks))
 known_next list at k ks = joined_grouped list (one_known at k) (items_known at ks) ∙ ap (joined list) (one_before at k ks)
 
@@ -48,9 +48,36 @@ scope_before : (p : Path) (at : Place) (s : Scope) (ss : List Scope)
 scope_before p at s ss = joined_if (same_path p s.path) (items_known at s.known) (items_in_scopes p at ss)
 
 -- the items of a scope behind a list stand before those of later scopes
-pub scope_next : (list : Checked (List NamedItem)) (p : Path) (at : Place) (s : Scope) (ss : List Scope)
+scope_next : (list : Checked (List NamedItem)) (p : Path) (at : Place) (s : Scope) (ss : List Scope)
     → joined (joined list (one_scope p at s)) (items_in_scopes p at ss) ≡ joined list (items_in_scopes p at (s ∷ ss))
 scope_next list p at s ss = joined_grouped list (one_scope p at s) (items_in_scopes p at ss) ∙ ap (joined list) (scope_before p at s ss)
+
+-- ---- loops
+
+-- one declaration more
+pub known_step : (at : Place) (ks : List Known) (i : ℕ) (k : Known) (list next total : Checked (List NamedItem)) → i < length ks → k ≡ get_or ks i k
+    → next ≡ joined list (one_known at k) → joined list (items_known at (drop i ks)) ≡ total → joined next (items_known at (drop (i + 1) ks)) ≡ total
+known_step at ks i k list next total h is put so_far =
+    ap (λ (c : Checked (List NamedItem)). joined c (items_known at (drop (i + 1) ks))) put
+    ∙ known_next list at k (drop (i + 1) ks)
+    ∙ ap (λ (j : ℕ). joined list (items_known at (k ∷ drop j ks))) (add-one i)
+    ∙ ap (λ (y : Known). joined list (items_known at (y ∷ drop (suc i) ks))) is
+    ∙ sym (ap (λ (ys : List Known). joined list (items_known at ys)) (drop-cons ks i k h))
+    ∙ so_far
+
+-- one scope more, of what has scopes
+module _ {A : Type 0} (scopes : List A → List Scope) (scope : A → Scope) (first : (y : A) (ys : List A) → scopes (y ∷ ys) ≡ scope y ∷ scopes ys) where
+  pub scope_step : (p : Path) (at : Place) (xs : List A) (i : ℕ) (x : A) (list next total : Checked (List NamedItem)) → i < length xs → x ≡ get_or xs i x
+      → next ≡ joined list (one_scope p at (scope x)) → joined list (items_in_scopes p at (scopes (drop i xs))) ≡ total
+      → joined next (items_in_scopes p at (scopes (drop (i + 1) xs))) ≡ total
+  scope_step p at xs i x list next total h is put so_far =
+      ap (λ (c : Checked (List NamedItem)). joined c (items_in_scopes p at (scopes (drop (i + 1) xs)))) put
+      ∙ scope_next list p at (scope x) (scopes (drop (i + 1) xs))
+      ∙ ap (λ (ss : List Scope). joined list (items_in_scopes p at ss)) (sym (first x (drop (i + 1) xs)))
+      ∙ ap (λ (j : ℕ). joined list (items_in_scopes p at (scopes (x ∷ drop j xs)))) (add-one i)
+      ∙ ap (λ (y : A). joined list (items_in_scopes p at (scopes (y ∷ drop (suc i) xs)))) is
+      ∙ sym (ap (λ (ys : List A). joined list (items_in_scopes p at (scopes ys))) (drop-cons xs i x h))
+      ∙ so_far
 
 -- ---- an enum
 

@@ -1,6 +1,6 @@
 -- What each method of the language does, in steps.
-use Rattle.std.proofs.Common.{◌≡◌, Bool, true, false, List, [], ◌∷◌, Option, Some, None, refl, ap, sym, ◌∙◌}
-use Rattle.std.specs.Prelude.{not, if◌then◌else◌, option_to_list}
+use Rattle.std.proofs.Common.{◌≡◌, Bool, true, false, List, [], ◌∷◌, Option, Some, None, refl, ap, sym, ◌∙◌, subst}
+use Rattle.std.specs.Prelude.{not, if◌then◌else◌, option_to_list, Result}
 use Rattle.sv_value.specs.declared.place.Place.{Place}
 use Rattle.sv_value.specs.declared.val.Wanted.{Wanted}
 use Rattle.sv_flat.specs.declared.call.CallForm.{CallForm}
@@ -13,14 +13,17 @@ use Rattle.sv_names.specs.declared.checked.Checked.TheVariants.{Good, Broken}
 use Rattle.sv_names.specs.declared.hoisted.Hoisted.{Hoisted}
 use Rattle.sv_names.specs.declared.method.Action.{Action}
 use Rattle.sv_names.specs.declared.method.Action.TheVariants as action
+use Rattle.sv_names.specs.declared.method.Called.{Called}
 use Rattle.sv_names.specs.declared.method.Called.TheVariants as called
 use Rattle.sv_names.specs.declared.method.Outcome.{Outcome}
+use Rattle.sv_names.specs.declared.refusal.Refusal.{Refusal}
 use Rattle.sv_names.specs.declared.ty.Ty.{Ty}
 use Rattle.sv_names.specs.declared.ty.Ty.TheVariants.{Assoc, Nothing}
 use Rattle.sv_names.specs.declared.typed.Typed.{Typed}
 use Rattle.sv_names.specs.Arguments.{value_of_arg}
 use Rattle.sv_names.specs.Calls as calls
 use Rattle.sv_names.specs.Checked.{◌▷◌, given, broken_at, rule}
+use Rattle.sv_names.specs.Given.{Gives}
 use Rattle.sv_names.specs.Methods.{type_given}
 use Rattle.sv_names.specs.Named.{Around}
 use Rattle.sv_names.specs.Selects.{index_for}
@@ -128,3 +131,9 @@ module _ (ar : Around) (pe : Place) (g : Outcome) (c : Typed) where
   insert_is [] = refl
   insert_is (i ∷ []) = refl
   insert_is (i ∷ a ∷ as') = refl
+
+  -- what answers a step of a method answers its call
+  pub does : (as' : List Arg) (r : Result Called Refusal) (x : Checked Called) (act kind : Action) → act ≡ kind → x ≡ calls.acted ar pe kind g c as'
+      → Gives r x → Gives r (calls.acted ar pe act g c as')
+  does as' r x act kind is h answers =
+      subst (λ (y : Checked Called). Gives r y) (h ∙ sym (ap (λ (k : Action). calls.acted ar pe k g c as') is)) answers

@@ -120,9 +120,13 @@ walk ar w c a = given (λ f. called.Call f int_type) (walk_argument ar w c a)
 abbrev pub message_as : Around → Ty → Place → Typed → Checked (Ty × Hoisted flat.Expr)
 message_as ar t at x = given (λ e. (t, e)) (exactly ar t at x)
 
+-- E16: a single item as a message of its own type
+abbrev pub item_message : Around → Place → Typed → Checked (Ty × Hoisted flat.Expr)
+item_message ar at y = if is_message y.ty then message_as ar y.ty at y else broken_at 16 at
+
 -- E16, E42: a message of any type
 abbrev pub any_message : Around → Place → Typed → Checked (Ty × Hoisted flat.Expr)
-any_message ar at x = one_item x ▷ (λ y. if is_message y.ty then message_as ar y.ty at y else broken_at 16 at)
+any_message ar at x = one_item x ▷ item_message ar at
 
 -- a mailbox into which a message is put
 abbrev pub put_form : Around → Bool → Hoisted flat.Expr → Ty × Hoisted flat.Expr → Hoisted CallForm

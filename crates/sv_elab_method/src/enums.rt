@@ -108,7 +108,7 @@ fn and_known(
 }
 
 /// The items of an enum among declarations, with their values.
-#[tactic(auto, using(crate::proofs::ItemLaws::known_next, sv_names::proofs::Joined::joined_first, sv_names::proofs::Joined::joined_last))]
+#[tactic(auto, using(sv_names::proofs::Joined::joined_first, sv_names::proofs::Joined::joined_last))]
 fn items_known(
     alloc: Global,
     at: Place,
@@ -146,7 +146,7 @@ fn and_scope(
 }
 
 /// The items of an enum in scopes.
-#[tactic(auto, using(crate::proofs::ItemLaws::scope_next, sv_names::proofs::Joined::joined_first, sv_names::proofs::Joined::joined_last))]
+#[tactic(auto, using(sv_names::proofs::Joined::joined_first, sv_names::proofs::Joined::joined_last))]
 fn items_in_scopes(
     alloc: Global,
     path: &[Text],
@@ -163,7 +163,7 @@ fn items_in_scopes(
 }
 
 /// The items of an enum in classes.
-#[tactic(auto, using(crate::proofs::ItemLaws::scope_next, sv_names::proofs::Joined::joined_first, sv_names::proofs::Joined::joined_last))]
+#[tactic(auto, using(sv_names::proofs::Joined::joined_first, sv_names::proofs::Joined::joined_last))]
 fn items_in_classes(
     alloc: Global,
     path: &[Text],

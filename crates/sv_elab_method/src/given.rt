@@ -75,16 +75,6 @@ pub(crate) fn type_given(alloc: Global, gives: &Outcome) -> Result<Ty, Refusal>
     }
 }
 
-/// A call that gives a value of a type, or nothing.
-pub(crate) fn giving(ty: Ty, form: Result<Hoisted<CallForm>, Refusal>) -> Result<Called, Refusal>
-    ensures { (x : checked (hoisted call_form)) → Gives form x → Gives result (given (λ f. called.Call f ty) x) }
-{
-    match form {
-        Ok(form) => Ok(Called::Call(form, ty)),
-        Err(e) => Err(e),
-    }
-}
-
 /// An operator, which gives a value of a type.
 pub(crate) fn operator(
     alloc: Global,

@@ -19,9 +19,3 @@ mod walks;
 
 pub use methods::method_called;
 pub use sizes::size_expr;
-
-#[cfg(test)]
-mod tests {
-    #[test]
-    fn nothing() {}
-}
