@@ -1,9 +1,8 @@
 -- Values that are given to targets keep the calls of the expressions that they are made of.
-use Rattle.std.proofs.Common.{◌≡◌, ℕ, Bool, true, false, List, [], ◌∷◌, ◌++◌, refl, ap, sym, ◌∙◌, append-nil}
+use Rattle.std.proofs.Common.{◌≡◌, Bool, true, false, List, [], ◌∷◌, ◌++◌, refl, ap, sym, ◌∙◌, append-nil}
 use Rattle.std.specs.Prelude.{Some, not, ◌&&◌, ◌||◌, if◌then◌else◌, nat_lt}
 use Rattle.sv_value.specs.declared.place.Place.{Place}
 use Rattle.sv_flat.specs.declared.target.Lvalue.{Lvalue}
-use Rattle.sv_flat.specs.declared.call.Argument.{Argument}
 use Rattle.sv_flat.specs.Expr as flat
 use Rattle.sv_names.specs.declared.checked.Checked.{Checked}
 use Rattle.sv_names.specs.declared.checked.Checked.TheVariants.{Good, Broken}

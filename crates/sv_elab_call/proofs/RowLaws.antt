@@ -1,5 +1,5 @@
 -- Arguments with their calls, one behind another.
-use Rattle.std.proofs.Common.{◌≡◌, List, [], ◌∷◌, ◌++◌, refl, ap, append_assoc, append-nil}
+use Rattle.std.proofs.Common.{◌≡◌, List, [], ◌∷◌, ◌++◌, refl, append_assoc, append-nil}
 use Rattle.sv_flat.specs.declared.call.Argument.{Argument}
 use Rattle.sv_names.specs.declared.hoisted.Hoisted.{Hoisted}
 use Rattle.sv_names.specs.Hoisted.{pure, paired, in_row}

@@ -1,12 +1,11 @@
 -- What each method of the language does, in steps.
-use Rattle.std.proofs.Common.{◌≡◌, Bool, true, false, List, [], ◌∷◌, Option, Some, None, refl, ap, sym, ◌∙◌, subst}
+use Rattle.std.proofs.Common.{◌≡◌, Bool, true, false, List, [], ◌∷◌, refl, ap, sym, ◌∙◌, subst}
 use Rattle.std.specs.Prelude.{not, if◌then◌else◌, option_to_list, Result}
 use Rattle.sv_value.specs.declared.place.Place.{Place}
 use Rattle.sv_value.specs.declared.val.Wanted.{Wanted}
 use Rattle.sv_flat.specs.declared.call.CallForm.{CallForm}
 use Rattle.sv_flat.specs.declared.call.End.{End}
 use Rattle.sv_flat.specs.declared.call.WalkStep.{WalkStep}
-use Rattle.sv_flat.specs.Expr as flat
 use Rattle.sv_names.specs.declared.argument.Arg.{Arg}
 use Rattle.sv_names.specs.declared.checked.Checked.{Checked}
 use Rattle.sv_names.specs.declared.checked.Checked.TheVariants.{Good, Broken}

@@ -1,9 +1,9 @@
 -- The items of an enum, one declaration after another (IEEE 1800-2017, 6.19).
-use Rattle.std.specs.Prelude.{List, [], ◌∷◌, map, if◌then◌else◌}
+use Rattle.std.specs.Prelude.{List, [], map, if◌then◌else◌}
 use Rattle.sv_value.specs.declared.place.Place.{Place}
 use Rattle.sv_flat.specs.declared.expr.NamedItem.{NamedItem}
 use Rattle.sv_names.specs.declared.checked.Checked.{Checked}
-use Rattle.sv_names.specs.declared.checked.Checked.TheVariants.{Good, Broken}
+use Rattle.sv_names.specs.declared.checked.Checked.TheVariants.{Good}
 use Rattle.sv_names.specs.declared.named.Known.{Known}
 use Rattle.sv_names.specs.declared.scope.Scope.{Scope}
 use Rattle.sv_names.specs.Calls.{is_item_at, item_named, items_known, items_in_scopes}
