@@ -1,14 +1,12 @@
 // `name` of an enum, and its items (IEEE 1800-2017, 6.19).
-ghost use Rattle.std.specs.Prelude.{◌≡◌, ◌++◌, List, map, IfOk, IfErr};
+ghost use Rattle.std.specs.Prelude.{◌≡◌, map, IfOk, IfErr};
 ghost use Rattle.sv_flat.specs.declared.expr.NamedItem.{NamedItem as item_of};
 ghost use Rattle.sv_flat.specs.Expr as flat;
-ghost use Rattle.sv_names.specs.declared.checked.Checked.{Checked as checked};
 ghost use Rattle.sv_names.specs.declared.refusal.Refusal.TheVariants.{Memory};
 ghost use Rattle.sv_names.specs.Calls as calls;
 ghost use Rattle.sv_names.specs.Given.{Gives};
 ghost use Rattle.sv_names.specs.Hoisted as hoisted;
 ghost use Rattle.sv_names.specs.Joined.{joined};
-ghost use Rattle.sv_names.specs.Types as types;
 ghost use Rattle.sv_names.specs.Views.{around_in};
 ghost use Rattle.sv_elab_method.specs.Items as items;
 ghost use Rattle.sv_elab_method.specs.Steps as steps;

@@ -1,12 +1,9 @@
 // What is called, what it takes and what it gives (IEEE 1800-2017, 7.9 and 7.10).
 ghost use Rattle.std.specs.Prelude.{◌≡◌, IfOk, IfErr};
-ghost use Rattle.sv_flat.specs.declared.call.CallForm.{CallForm as call_form};
-ghost use Rattle.sv_names.specs.declared.checked.Checked.{Checked as checked};
-ghost use Rattle.sv_names.specs.declared.hoisted.Hoisted.{Hoisted as hoisted};
 ghost use Rattle.sv_names.specs.declared.method.Called.TheVariants as called;
 ghost use Rattle.sv_names.specs.declared.refusal.Refusal.TheVariants.{Memory};
 ghost use Rattle.sv_names.specs.Arguments as arguments;
-ghost use Rattle.sv_names.specs.Checked.{◌▷◌, given};
+ghost use Rattle.sv_names.specs.Checked.{◌▷◌};
 ghost use Rattle.sv_names.specs.Given.{Gives};
 ghost use Rattle.sv_names.specs.Methods as methods;
 ghost use Rattle.sv_names.specs.Types as types;

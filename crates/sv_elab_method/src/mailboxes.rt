@@ -1,14 +1,10 @@
 // The methods of mailboxes (IEEE 1800-2017, 15.4): E16, E17, E31, E42.
-ghost use Rattle.std.specs.Prelude.{◌≡◌, ◌∷◌, ◌||◌, [], IfOk, IfErr, if◌then◌else◌};
-ghost use Rattle.sv_value.specs.declared.place.Place.{Place as place_of};
-ghost use Rattle.sv_flat.specs.Expr as flat;
-ghost use Rattle.sv_names.specs.declared.method.Action.TheVariants as action;
+ghost use Rattle.std.specs.Prelude.{◌≡◌, ◌||◌, IfOk, IfErr, if◌then◌else◌};
 ghost use Rattle.sv_names.specs.declared.refusal.Refusal.TheVariants.{Memory};
 ghost use Rattle.sv_names.specs.Arguments as arguments;
 ghost use Rattle.sv_names.specs.Calls as calls;
 ghost use Rattle.sv_names.specs.Checked.{◌▷◌, given};
 ghost use Rattle.sv_names.specs.Given.{Gives};
-ghost use Rattle.sv_names.specs.Hoisted as hoisted;
 ghost use Rattle.sv_names.specs.Views.{around_in, derived_at};
 ghost use Rattle.sv_elab_method.specs.Steps as steps;
 

@@ -1,7 +1,5 @@
 // Calls of methods of the language (IEEE 1800-2017, 6.16, 6.19, 7.5 to 7.10 and 15): E16, E17, E24, E25, E27, E31, E32, E42.
-ghost use Rattle.std.specs.Prelude.{◌≡◌, ◌∷◌, [], List, option_to_list, length};
-ghost use Rattle.sv_names.specs.declared.argument.Arg.{Arg as arg_of};
-ghost use Rattle.sv_names.specs.declared.method.Action.TheVariants as action;
+ghost use Rattle.std.specs.Prelude.{◌≡◌, ◌∷◌, [], option_to_list};
 ghost use Rattle.sv_names.specs.Calls as calls;
 ghost use Rattle.sv_names.specs.Given.{Gives};
 ghost use Rattle.sv_names.specs.Methods as methods;

@@ -1,9 +1,8 @@
 // The methods of semaphores, strings and events (IEEE 1800-2017, 6.16.1, 15.3 and 15.5.3): E16, E42.
-ghost use Rattle.std.specs.Prelude.{◌≡◌, ◌∷◌, [], option_to_list, IfOk, IfErr};
+ghost use Rattle.std.specs.Prelude.{◌≡◌, option_to_list, IfOk, IfErr};
 ghost use Rattle.sv_names.specs.declared.refusal.Refusal.TheVariants.{Memory};
 ghost use Rattle.sv_names.specs.Calls as calls;
 ghost use Rattle.sv_names.specs.Given.{Gives};
-ghost use Rattle.sv_names.specs.Hoisted as hoisted;
 ghost use Rattle.sv_names.specs.Views.{around_in};
 ghost use Rattle.sv_elab_method.specs.Steps as steps;
 
