@@ -19,7 +19,7 @@ fn place_behind(first: u32, hidden: &[DataType]) -> u32
 }
 
 /// A list with one more item.
-fn put_behind<A: Drop>(list: Seq<A>, item: A) -> Result<Seq<A>, Refusal>
+pub(crate) fn put_behind<A: Drop>(list: Seq<A>, item: A) -> Result<Seq<A>, Refusal>
     ensures ok { IfOk result (λ xs. xs ≡ list ++ item ∷ []) }
     ensures err { IfErr result (λ e. e ≡ Memory) }
 {

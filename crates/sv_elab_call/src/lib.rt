@@ -1,16 +1,20 @@
-//! Calls of subroutines and of methods of the language, over their arguments (IEEE 1800-2017, 8, 13 and 15).
+//! Calls of subroutines, over their arguments (IEEE 1800-2017, 8, 13 and 15).
 //!
-//! - `calls` has calls of subroutines, `actions` of methods of the language, `casts` of `$cast`; `given` what a call gives as a value.
+//! - `passing` has the arguments of subroutines, `rows` arguments with their calls; `stands` tells where a call may stand.
+//! - `calls` has calls of subroutines, `casts` of `$cast`; `given` what a call gives as a value.
 //!
 //! Each function answers what its definition in `sv_names` gives, or the first rule that is broken, or that memory ran out.
 #![tactic(auto)]
 
-mod actions;
 mod calls;
 mod casts;
 mod given;
+mod passing;
+mod rows;
+mod stands;
 
-pub use actions::method_called;
 pub use calls::subroutine_called;
 pub use casts::cast_called;
 pub use given::as_value;
+pub use passing::first_two;
+pub use stands::{call_stands, task_stands, value_stands};

@@ -31,7 +31,7 @@ pub use roots::root_thing;
 pub use steps::{
     dollar_behind, hidden_behind, judged_thing, member_step, outputs_behind, value_step,
 };
-pub use suffixes::{dollar_in, signal_named, size_expr, value_member};
+pub use suffixes::{dollar_in, signal_named, value_member};
 pub use thing::Thing;
 pub use value::{signal_read, signal_target};
 pub use variables::{field_typed, lasts, local_typed, object_typed};

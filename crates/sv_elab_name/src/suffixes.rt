@@ -5,7 +5,6 @@ ghost use Rattle.sv_names.specs.declared.checked.Checked.{Checked as checked};
 ghost use Rattle.sv_names.specs.declared.checked.Checked.TheVariants.{Good};
 ghost use Rattle.sv_names.specs.declared.refusal.Refusal.TheVariants.{Memory};
 ghost use Rattle.sv_names.specs.declared.typed.Typed.{Typed as typed};
-ghost use Rattle.sv_names.specs.Calls as calls;
 ghost use Rattle.sv_names.specs.Checked.{◌▷◌, given, unless};
 ghost use Rattle.sv_names.specs.Given.{Gives, GivesAs};
 ghost use Rattle.sv_names.specs.Methods as methods;
@@ -16,11 +15,11 @@ ghost use Rattle.sv_elab_name.specs.Things.{thing_in};
 
 use crate::{Thing, member_named, method_of};
 use std::alloc::Global;
+use sv_elab_method::size_expr;
 use sv_elab_value::expr_of;
 use sv_flat::{Expr, ExprForm};
 use sv_names::{
-    Around, Checked, Dollar, Fault, Refusal, SignalInfo, Ty, Typed, copy_expr, copy_path,
-    same_bytes,
+    Around, Checked, Dollar, Fault, Refusal, SignalInfo, Ty, Typed, copy_path, same_bytes,
 };
 use sv_tree::Name;
 use sv_value::{BinOp, Bits, Place, Text};
@@ -132,37 +131,6 @@ pub fn signal_named<'a>(
 // ---- what follows a dot
 
 // ---- `$`
-
-/// The number of items of a container.
-pub fn size_expr(alloc: Global, container: &Expr) -> Result<Expr, Refusal>
-    ensures ok { IfOk result (λ e. e ≡ calls.size_expr container.now) }
-    ensures err { IfErr result (λ e. e ≡ Memory) }
-{
-    match &*container.form {
-        ExprForm::Field { place, object, .. } => {
-            let container = copy_expr(alloc, object)?;
-            let property = Some(*place);
-            expr_of(
-                alloc,
-                ExprForm::Size {
-                    property,
-                    container,
-                },
-            )
-        }
-        _ => {
-            let container = copy_expr(alloc, container)?;
-            let property = None;
-            expr_of(
-                alloc,
-                ExprForm::Size {
-                    property,
-                    container,
-                },
-            )
-        }
-    }
-}
 
 /// The index of the last item of a queue.
 fn last_index(alloc: Global, queue: &Expr) -> Result<Expr, Refusal>

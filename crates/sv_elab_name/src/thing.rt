@@ -10,7 +10,8 @@ use crate::suffixes::member_of_value;
 use crate::value::{bare_method, bare_subroutine, result_value};
 use crate::{signal_named, signal_read, value_member};
 use std::alloc::Global;
-use sv_elab_call::{method_called, subroutine_called};
+use sv_elab_call::subroutine_called;
+use sv_elab_method::method_called;
 use sv_elab_value::values_stand;
 use sv_names::{
     Arg, Around, Called, Callee, Checked, Method, Refusal, SignalInfo, Ty, Typed, where_also,

@@ -17,7 +17,8 @@ ghost use Rattle.sv_elab_name.specs.Things.{thing_in};
 
 use crate::{Thing, lasts, object_typed};
 use std::alloc::Global;
-use sv_elab_call::{as_value, method_called, subroutine_called};
+use sv_elab_call::{as_value, subroutine_called};
+use sv_elab_method::method_called;
 use sv_names::{
     Around, Begin, Called, Callee, Checked, Method, Refusal, SignalInfo, Ty, Typed, copy_path,
 };

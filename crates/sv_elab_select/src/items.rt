@@ -24,7 +24,7 @@ use sv_value::{ObjId, Place, Plain};
 // ---- in the flat design
 
 /// The container that an expression stands for.
-fn container_of(alloc: Global, e: &Expr) -> Result<Container, Refusal>
+pub fn container_of(alloc: Global, e: &Expr) -> Result<Container, Refusal>
     ensures ok { IfOk result (λ c. c ≡ selects.container_of e.now) }
     ensures err { IfErr result (λ e. e ≡ Memory) }
 {
@@ -196,7 +196,7 @@ fn text_key(alloc: Global, at: Place, i: Typed) -> Result<Hoisted<Expr>, Refusal
 }
 
 /// E17, E42: the key of an associative array.
-fn key_for(
+pub fn key_for(
     alloc: Global,
     around: &Around,
     key: &Ty,
@@ -219,7 +219,7 @@ fn key_for(
 }
 
 /// E42: the index of an array that is counted.
-fn counted_index(alloc: Global, at: Place, i: Typed) -> Result<Hoisted<Expr>, Refusal>
+pub fn counted_index(alloc: Global, at: Place, i: Typed) -> Result<Hoisted<Expr>, Refusal>
     ensures { Gives result (parts.counted_index at i) }
 {
     match number_index(at, i) {
@@ -232,7 +232,7 @@ fn counted_index(alloc: Global, at: Place, i: Typed) -> Result<Hoisted<Expr>, Re
 }
 
 /// E17, E42: the index of an array.
-fn index_for(
+pub fn index_for(
     alloc: Global,
     around: &Around,
     ty: &Ty,

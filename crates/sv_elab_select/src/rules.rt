@@ -9,7 +9,7 @@ use sv_names::{Refusal, both};
 use sv_value::Place;
 
 /// A rule, which is broken where a test holds.
-pub(crate) fn rule(number: u8, at: Place, is_broken: bool) -> Result<(), Refusal>
+pub fn rule(number: u8, at: Place, is_broken: bool) -> Result<(), Refusal>
     ensures { Gives result (rules.rule number at is_broken) }
 {
     if is_broken {
