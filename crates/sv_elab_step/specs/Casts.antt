@@ -1,10 +1,10 @@
 -- Casts over what their parts give: to what is no number, and to a width (IEEE 1800-2017, 6.24.1).
 use Rattle.std.specs.Prelude.{ℕ, false, List, if◌then◌else◌}
 use Rattle.sv_value.specs.declared.place.Place.{Place}
-use Rattle.sv_names.specs.declared.checked.Checked.{Checked}
 use Rattle.sv_value.specs.declared.val.Integral.{Integral}
 use Rattle.sv_tree.specs.declared.word.Name.{Name}
 use Rattle.sv_tree.specs.declared.word.VectorWord.{VectorWord}
+use Rattle.sv_names.specs.declared.checked.Checked.{Checked}
 use Rattle.sv_names.specs.declared.named.Named.{Named}
 use Rattle.sv_names.specs.declared.ty.Ty.{Ty}
 use Rattle.sv_names.specs.declared.ty.Ty.TheVariants.{Vector}
