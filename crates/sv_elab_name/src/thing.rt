@@ -1,20 +1,23 @@
 // What a name with its members and calls can stand for.
-ghost use Rattle.std.specs.Prelude.{◌≡◌};
+ghost use Rattle.std.specs.Prelude.{◌≡◌, Some, IfOk, IfErr};
 ghost use Rattle.sv_names.specs.declared.checked.Checked.TheVariants.{Good};
+ghost use Rattle.sv_names.specs.declared.refusal.Refusal.TheVariants.{Memory};
+ghost use Rattle.sv_names.specs.Expressions as expressions;
 ghost use Rattle.sv_names.specs.Given.{Gives, GivesAs};
 ghost use Rattle.sv_names.specs.Things as things;
 ghost use Rattle.sv_names.specs.Views.{around_in};
-ghost use Rattle.sv_elab_name.specs.Things.{thing_in};
+ghost use Rattle.sv_elab_name.specs.Things.{thing_in, no_target};
 
 use crate::suffixes::member_of_value;
 use crate::value::{bare_method, bare_subroutine, result_value};
-use crate::{signal_named, signal_read, value_member};
+use crate::{signal_named, signal_read, signal_target, value_member};
 use std::alloc::Global;
 use sv_elab_call::subroutine_called;
 use sv_elab_method::method_called;
 use sv_elab_value::values_stand;
 use sv_names::{
-    Arg, Around, Called, Callee, Checked, Method, Refusal, SignalInfo, Ty, Typed, where_also,
+    Arg, Around, Called, Callee, Checked, Fault, Method, Refusal, SignalInfo, Ty, Typed,
+    copy_typed, where_also,
 };
 use sv_tree::Name;
 use sv_value::{Place, Seq, Text};
@@ -160,6 +163,90 @@ impl Thing<'_> {
             Thing::TypeName { .. } => 0,
         }
     }
+
+    /// Whether the thing can be called.
+    pub fn is_callable(&self) -> bool
+        ensures { result ≡ expressions.is_callable (Good (thing_in self.now)) }
+    {
+        match self {
+            Thing::Subroutine { .. } => true,
+            Thing::Method { .. } => true,
+            Thing::ItsResult { .. } => true,
+            Thing::Value(_) => false,
+            Thing::Block { .. } => false,
+            Thing::Signal { .. } => false,
+            Thing::TypeName { .. } => false,
+        }
+    }
+
+    /// The rule that the thing breaks where it is to be a target and is none, in an expression that begins at the place. E18: it is a
+    /// method of the language; E7: it is no value and no method.
+    pub fn no_target(&self, place: Place) -> Fault
+        ensures { result ≡ no_target place (thing_in self.now) }
+    {
+        let no_value = Fault {
+            at: self.place(),
+            rule: 7,
+        };
+        match self {
+            Thing::Method { .. } => Fault {
+                at: place,
+                rule: 18,
+            },
+            Thing::Value(_) => no_value,
+            Thing::Subroutine { .. } => no_value,
+            Thing::ItsResult { .. } => no_value,
+            Thing::Block { .. } => no_value,
+            Thing::Signal { .. } => no_value,
+            Thing::TypeName { .. } => no_value,
+        }
+    }
+
+    /// What the thing is as a target, in memory of its own; none where it is no target.
+    pub fn to_target(&self, alloc: Global, around: &Around) -> Result<Option<Typed>, Refusal>
+        ensures ok { IfOk result (λ t. t ≡ expressions.as_target (around_in around.now) (Good (thing_in self.now))) }
+        ensures err { IfErr result (λ e. e ≡ Memory) }
+    {
+        match self {
+            Thing::Value(t) => some_copy(alloc, t),
+            Thing::ItsResult { variable, .. } => some_copy(alloc, variable),
+            Thing::Signal {
+                block,
+                place,
+                signal,
+                at,
+            } => some_signal(alloc, around, block, *place, signal, *at),
+            Thing::Subroutine { .. } => Ok(None),
+            Thing::Method { .. } => Ok(None),
+            Thing::Block { .. } => Ok(None),
+            Thing::TypeName { .. } => Ok(None),
+        }
+    }
+}
+
+/// A target that is there, in memory of its own.
+fn some_copy(alloc: Global, t: &Typed) -> Result<Option<Typed>, Refusal>
+    ensures ok { IfOk result (λ c. c ≡ Some t.now) }
+    ensures err { IfErr result (λ e. e ≡ Memory) }
+{
+    let t = copy_typed(alloc, t)?;
+    Ok(Some(t))
+}
+
+/// A signal of a clocking block as a target, which is there.
+fn some_signal(
+    alloc: Global,
+    around: &Around,
+    block: &[Text],
+    place: u32,
+    signal: &SignalInfo,
+    at: Place,
+) -> Result<Option<Typed>, Refusal>
+    ensures ok { IfOk result (λ t. t ≡ Some (things.signal_target (around_in around.now) block.now place signal.now at)) }
+    ensures err { IfErr result (λ e. e ≡ Memory) }
+{
+    let t = signal_target(alloc, around, block, place, signal, at)?;
+    Ok(Some(t))
 }
 
 // ---- what a thing is taken apart into
@@ -258,6 +345,7 @@ impl<'a> Thing<'a> {
             }
         }
     }
+
     /// What a call of the thing calls, in an expression that begins at the place. E7: it is no subroutine and no method; or a rule that the
     /// call breaks.
     pub fn called(
@@ -303,6 +391,45 @@ impl<'a> Thing<'a> {
                 at,
             } => not_called(at, args.as_slice()),
             Thing::TypeName { ty: _, at } => not_called(at, args.as_slice()),
+        }
+    }
+
+    /// What the thing is as a target; none where it is no target.
+    pub fn into_target(self, alloc: Global, around: &Around) -> Result<Option<Typed>, Refusal>
+        ensures ok { IfOk result (λ t. t ≡ expressions.as_target (around_in around.now) (Good (thing_in self.entry))) }
+        ensures err { IfErr result (λ e. e ≡ Memory) }
+    {
+        match self {
+            Thing::Value(t) => Ok(Some(t)),
+            Thing::ItsResult {
+                callee: _,
+                object: _,
+                variable,
+                at: _,
+            } => Ok(Some(variable)),
+            Thing::Signal {
+                block,
+                place,
+                signal,
+                at,
+            } => some_signal(alloc, around, block, place, signal, at),
+            Thing::Subroutine {
+                callee: _,
+                object: _,
+                is_direct: _,
+                at: _,
+            } => Ok(None),
+            Thing::Method {
+                method: _,
+                object: _,
+                at: _,
+            } => Ok(None),
+            Thing::Block {
+                path: _,
+                signals: _,
+                at: _,
+            } => Ok(None),
+            Thing::TypeName { ty: _, at: _ } => Ok(None),
         }
     }
 }

@@ -1,7 +1,7 @@
 -- The parts of a concatenation as targets do not depend on how they are grouped.
-use Rattle.std.proofs.Common.{◌≡◌, List, [], ◌∷◌, ◌++◌, Option, Some, None, refl, ap, append_assoc}
+use Rattle.std.proofs.Common.{◌≡◌, List, [], Option, Some, None, refl, ap}
 use Rattle.sv_names.specs.declared.checked.Checked.{Checked}
-use Rattle.sv_names.specs.declared.checked.Checked.TheVariants.{Good, Broken}
+use Rattle.sv_names.specs.declared.checked.Checked.TheVariants.{Good}
 use Rattle.sv_names.specs.Expressions.{more_spots}
 use Rattle.sv_names.specs.Joined.{joined}
 use Rattle.sv_names.specs.Targets.{Spot}

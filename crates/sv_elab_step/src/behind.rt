@@ -42,7 +42,8 @@ fn hidden_in_target(target: &Checked<Seq<(Place, Typed)>>) -> u32
 
 /// What stands behind a value.
 pub fn after<'a>(around: &Around<'a>, a: &Result<Typed, Refusal>) -> Result<Around<'a>, Refusal>
-    ensures ok { (x : checked typed) → Gives a.now x → IfOk result (λ r. around_in r ≡ behind (hidden_in x) (around_in around.now)) }
+    ensures ok { (x : checked typed) → Gives a.now x
+        → IfOk result (λ r. around_in r ≡ behind (hidden_in x) (around_in around.now)) }
     ensures err { IfErr result (λ e. e ≡ Memory) }
 {
     match a {

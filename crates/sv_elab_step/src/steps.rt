@@ -45,7 +45,8 @@ pub fn in_index<'b, 'a: 'b>(
     value: &Checked<Typed>,
     around: &Around<'a>,
 ) -> Around<'b>
-    ensures { (th : checked thing_of) → dollar.now ≡ things.dollar_in th → around_in result ≡ expressions.in_index th value.now (around_in around.now) }
+    ensures { (th : checked thing_of) → dollar.now ≡ things.dollar_in th
+        → around_in result ≡ expressions.in_index th value.now (around_in around.now) }
 {
     Around {
         dollar,
@@ -89,7 +90,8 @@ pub fn call_step<'a>(
     thing: Checked<Thing>,
     args: Seq<Arg>,
 ) -> Result<Checked<Thing<'a>>, Refusal>
-    ensures ok { IfOk result (λ c. given thing_in c ≡ things.called_step (around_in around.now) place (given thing_in thing) args) }
+    ensures ok { IfOk result (λ c. given thing_in c
+        ≡ things.called_step (around_in around.now) place (given thing_in thing.entry) args) }
     ensures err { IfErr result (λ e. e ≡ Memory) }
 {
     match thing {
@@ -164,7 +166,8 @@ pub fn select_step<'a>(
     value: Checked<Typed>,
     i: Checked<Typed>,
 ) -> Result<Checked<Thing<'a>>, Refusal>
-    ensures ok { IfOk result (λ c. (th : checked thing_of) → fault ≡ fault_in th → given thing_in c ≡ things.select_step (around_in around.now) at pi th value i) }
+    ensures ok { IfOk result (λ c. (th : checked thing_of) → fault ≡ fault_in th
+        → given thing_in c ≡ things.select_step (around_in around.now) at pi th value i) }
     ensures err { IfErr result (λ e. e ≡ Memory) }
 {
     match fault {
@@ -220,7 +223,8 @@ pub fn part_step<'a>(
     l: Checked<Typed>,
     r: Checked<Typed>,
 ) -> Result<Checked<Thing<'a>>, Refusal>
-    ensures ok { IfOk result (λ c. (th : checked thing_of) → fault ≡ fault_in th → given thing_in c ≡ things.part_step word at place pl pr th value l r) }
+    ensures ok { IfOk result (λ c. (th : checked thing_of) → fault ≡ fault_in th
+        → given thing_in c ≡ things.part_step word at place pl pr th value l r) }
     ensures err { IfErr result (λ e. e ≡ Memory) }
 {
     match fault {
