@@ -1,1 +1,3 @@
-pub mod Formats
+mod FormatLaws
+mod PrintLaws
+mod TextLaws

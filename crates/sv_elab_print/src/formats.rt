@@ -2,7 +2,7 @@
 ghost use Rattle.std.specs.Prelude.{◌≡◌, [], ◌∷◌, ◌++◌, ◌-◌, List, ℕ, None as none, Some as some, IfOk, IfErr};
 ghost use Rattle.sv_names.specs.Formats as formats;
 ghost use Rattle.sv_names.specs.declared.refusal.Refusal.TheVariants.{Memory};
-ghost use Rattle.sv_elab_print.specs.Reading.{width_of, parts_behind, read_behind, read_on, read_if};
+ghost use Rattle.sv_elab_print.specs.Reading.{width_of, letter_behind, read_behind, read_on, read_if};
 
 use std::alloc::Global;
 use sv_names::Refusal;
@@ -63,19 +63,41 @@ fn field_of(letter: u8) -> Option<FormatField>
     }
 }
 
+/// A `%` behind so many blanks.
+#[tactic(auto, using(crate::proofs::FormatLaws::blanks_are))]
+fn percent_behind(alloc: Global, count: u16) -> Result<Seq<u8>, Refusal>
+    ensures ok { IfOk result (λ t. t ≡ formats.blanks count ++ 37 ∷ []) }
+    ensures err { IfErr result (λ e. e ≡ Memory) }
+{
+    let mut bytes = Seq::new(alloc);
+    bytes.push_copies(b' ', usize::from(count))?;
+    bytes.push(b'%')?;
+    Ok(bytes)
+}
+
 /// The bytes of `%%`, padded.
 fn percent(alloc: Global, pad: Pad) -> Result<Seq<u8>, Refusal>
     ensures ok { IfOk result (λ t. t ≡ formats.percent pad) }
     ensures err { IfErr result (λ e. e ≡ Memory) }
 {
-    let mut bytes = Seq::new(alloc);
-    if let Pad::Wide(width) = pad {
-        for _ in 1..width {
-            bytes.push(b' ')?;
-        }
+    match pad {
+        Pad::Wide(width) => percent_behind(alloc, width.saturating_sub(1)),
+        Pad::Full => percent_behind(alloc, 0),
+        Pad::Least => percent_behind(alloc, 0),
     }
-    bytes.push(b'%')?;
-    Ok(bytes)
+}
+
+/// A field with its pad.
+fn spec_of(field: Option<FormatField>, pad: Option<Pad>) -> Option<Piece>
+    ensures { result ≡ formats.spec_of field pad }
+{
+    match field {
+        None => None,
+        Some(field) => match pad {
+            None => None,
+            Some(pad) => Some(Piece::Field(field, pad)),
+        },
+    }
 }
 
 // ---- from the left
@@ -104,7 +126,7 @@ fn flushed(done: Seq<Piece>, plain: Seq<u8>) -> Result<Seq<Piece>, Refusal>
 }
 
 /// A byte of plain text, or the `%` of a field.
-#[tactic(auto, using(crate::proofs::Formats::one_more))]
+#[tactic(auto, using(crate::proofs::FormatLaws::one_more))]
 fn plain_byte(alloc: Global, done: Seq<Piece>, plain: Seq<u8>, byte: u8) -> Result<Reading, Refusal>
     ensures ok { IfOk result (λ r. (cs : List ℕ) → read_on r cs ≡ read_behind done plain none (byte ∷ cs)) }
     ensures err { IfErr result (λ e. e ≡ Memory) }
@@ -149,6 +171,7 @@ fn percent_byte(
 }
 
 /// The letter of a field.
+#[tactic(auto, using(crate::proofs::FormatLaws::field_behind))]
 fn letter(
     alloc: Global,
     done: Seq<Piece>,
@@ -156,22 +179,19 @@ fn letter(
     digits: &[u8],
     byte: u8,
 ) -> Result<Option<Reading>, Refusal>
-    ensures ok { IfOk result (λ r. (cs : List ℕ) → read_if r cs
-        ≡ parts_behind done (formats.before_field plain (formats.spec_of (formats.field_of (formats.lower byte)) (formats.pad_of digits.now)) (formats.parts_from [] none cs))) }
+    ensures ok { IfOk result (λ r. (cs : List ℕ) → read_if r cs ≡ letter_behind done plain digits.now byte cs) }
     ensures err { IfErr result (λ e. e ≡ Memory) }
 {
-    match (field_of(byte), pad_of(digits)) {
-        (Some(field), Some(pad)) => {
-            let mut done = flushed(done, plain)?;
-            done.push(Piece::Field(field, pad))?;
-            Ok(Some(Reading {
-                done,
-                plain: Seq::new(alloc),
-                digits: None,
-            }))
-        }
-        _ => Ok(None),
-    }
+    let Some(field) = spec_of(field_of(byte), pad_of(digits)) else {
+        return Ok(None);
+    };
+    let mut done = flushed(done, plain)?;
+    done.push(field)?;
+    Ok(Some(Reading {
+        done,
+        plain: Seq::new(alloc),
+        digits: None,
+    }))
 }
 
 /// A byte of a field that is begun.

@@ -1,3 +1,5 @@
 pub mod BeforeLaws
 pub mod CastLaws
 mod SpotLaws
+mod SystemLaws
+mod TypeLaws

@@ -1,2 +1,3 @@
 pub mod Before
 pub mod Casts
+pub mod TypeNames

@@ -6,7 +6,7 @@ mod Forms
 mod Edges
 mod Files
 mod Cycles
-mod Kinds
+mod OtherKinds
 mod Refused
 mod Varied
 mod Finer

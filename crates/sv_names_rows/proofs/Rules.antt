@@ -915,3 +915,75 @@ t111 = descriptions.Item (items.Announce (name (at 0 1 15) "c")) ∷ module_ (at
 t111_broken : broken t111 [] None ≡ Some (fault 58 0 1 15)
 unfolding symbols_of word_of
 t111_broken = refl
+
+-- module u(input logic a); endmodule module t; logic a; u x(.a); endmodule
+abbrev t112 : List Description
+t112 = module_ (at 0 1 1) life.Unwritten (name (at 0 1 8) "u") None (port (Some port_direction.Input) false (types.Written (types.WrittenType.Vector (at 0 1 16) vector_word.Logic sign.Unwritten None)) (name (at 0 1 22) "a") ∷ []) [] None ∷ module_ (at 0 1 36) life.Unwritten (name (at 0 1 43) "t") None [] (items.Decl (decl life.Unwritten (types.WrittenType.Vector (at 0 1 46) vector_word.Logic sign.Unwritten None) (declarator (name (at 0 1 52) "a") None None ∷ [])) ∷ instances (name (at 0 1 55) "u") [] (instance (name (at 0 1 57) "x") (units.Named (at 0 1 59) (name (at 0 1 60) "a") ∷ []) ∷ []) ∷ []) None ∷ []
+
+t112_broken : broken t112 [] None ≡ None
+unfolding symbols_of word_of
+t112_broken = refl
+
+-- E9: module u(input logic a); endmodule module t; logic b; u x(.a); endmodule
+abbrev t113 : List Description
+t113 = module_ (at 0 1 1) life.Unwritten (name (at 0 1 8) "u") None (port (Some port_direction.Input) false (types.Written (types.WrittenType.Vector (at 0 1 16) vector_word.Logic sign.Unwritten None)) (name (at 0 1 22) "a") ∷ []) [] None ∷ module_ (at 0 1 36) life.Unwritten (name (at 0 1 43) "t") None [] (items.Decl (decl life.Unwritten (types.WrittenType.Vector (at 0 1 46) vector_word.Logic sign.Unwritten None) (declarator (name (at 0 1 52) "b") None None ∷ [])) ∷ instances (name (at 0 1 55) "u") [] (instance (name (at 0 1 57) "x") (units.Named (at 0 1 59) (name (at 0 1 60) "a") ∷ []) ∷ []) ∷ []) None ∷ []
+
+t113_broken : broken t113 [] None ≡ Some (fault 9 0 1 59)
+unfolding symbols_of word_of
+t113_broken = refl
+
+-- E9: module u(input logic a); endmodule module t; logic b; u x(.*); endmodule
+abbrev t114 : List Description
+t114 = module_ (at 0 1 1) life.Unwritten (name (at 0 1 8) "u") None (port (Some port_direction.Input) false (types.Written (types.WrittenType.Vector (at 0 1 16) vector_word.Logic sign.Unwritten None)) (name (at 0 1 22) "a") ∷ []) [] None ∷ module_ (at 0 1 36) life.Unwritten (name (at 0 1 43) "t") None [] (items.Decl (decl life.Unwritten (types.WrittenType.Vector (at 0 1 46) vector_word.Logic sign.Unwritten None) (declarator (name (at 0 1 52) "b") None None ∷ [])) ∷ instances (name (at 0 1 55) "u") [] (instance (name (at 0 1 57) "x") (units.All (at 0 1 59) ∷ []) ∷ []) ∷ []) None ∷ []
+
+t114_broken : broken t114 [] None ≡ Some (fault 9 0 1 59)
+unfolding symbols_of word_of
+t114_broken = refl
+
+-- module t; initial #1ns ; endmodule
+abbrev t115 : List Description
+t115 = module_ (at 0 1 1) life.Unwritten (name (at 0 1 8) "t") None [] (procedure (at 0 1 11) procedure_word.Initial (stmts.Statement (at 0 1 19) None (stmts.After (delay (at 0 1 19) (tree.Time (at 0 1 20) (codes "1ns"))) (stmts.Statement (at 0 1 24) None stmts.Null))) ∷ []) None ∷ []
+
+t115_broken : broken t115 [] None ≡ None
+unfolding symbols_of word_of
+t115_broken = refl
+
+-- E52: module t; initial #1fs ; endmodule
+abbrev t116 : List Description
+t116 = module_ (at 0 1 1) life.Unwritten (name (at 0 1 8) "t") None [] (procedure (at 0 1 11) procedure_word.Initial (stmts.Statement (at 0 1 19) None (stmts.After (delay (at 0 1 19) (tree.Time (at 0 1 20) (codes "1fs"))) (stmts.Statement (at 0 1 24) None stmts.Null))) ∷ []) None ∷ []
+
+t116_broken : broken t116 [] None ≡ Some (fault 52 0 1 20)
+unfolding symbols_of word_of
+t116_broken = refl
+
+-- E52: module t; initial #999ps ; endmodule
+abbrev t117 : List Description
+t117 = module_ (at 0 1 1) life.Unwritten (name (at 0 1 8) "t") None [] (procedure (at 0 1 11) procedure_word.Initial (stmts.Statement (at 0 1 19) None (stmts.After (delay (at 0 1 19) (tree.Time (at 0 1 20) (codes "999ps"))) (stmts.Statement (at 0 1 26) None stmts.Null))) ∷ []) None ∷ []
+
+t117_broken : broken t117 [] None ≡ Some (fault 52 0 1 20)
+unfolding symbols_of word_of
+t117_broken = refl
+
+-- E52: module t; initial #1500ps ; endmodule
+abbrev t118 : List Description
+t118 = module_ (at 0 1 1) life.Unwritten (name (at 0 1 8) "t") None [] (procedure (at 0 1 11) procedure_word.Initial (stmts.Statement (at 0 1 19) None (stmts.After (delay (at 0 1 19) (tree.Time (at 0 1 20) (codes "1500ps"))) (stmts.Statement (at 0 1 27) None stmts.Null))) ∷ []) None ∷ []
+
+t118_broken : broken t118 [] None ≡ Some (fault 52 0 1 20)
+unfolding symbols_of word_of
+t118_broken = refl
+
+-- module t; initial #9223372036854775807ns ; endmodule
+abbrev t119 : List Description
+t119 = module_ (at 0 1 1) life.Unwritten (name (at 0 1 8) "t") None [] (procedure (at 0 1 11) procedure_word.Initial (stmts.Statement (at 0 1 19) None (stmts.After (delay (at 0 1 19) (tree.Time (at 0 1 20) (codes "9223372036854775807ns"))) (stmts.Statement (at 0 1 42) None stmts.Null))) ∷ []) None ∷ []
+
+t119_broken : broken t119 [] None ≡ None
+unfolding symbols_of word_of
+t119_broken = refl
+
+-- E52: module t; initial #9223372036854775808ns ; endmodule
+abbrev t120 : List Description
+t120 = module_ (at 0 1 1) life.Unwritten (name (at 0 1 8) "t") None [] (procedure (at 0 1 11) procedure_word.Initial (stmts.Statement (at 0 1 19) None (stmts.After (delay (at 0 1 19) (tree.Time (at 0 1 20) (codes "9223372036854775808ns"))) (stmts.Statement (at 0 1 42) None stmts.Null))) ∷ []) None ∷ []
+
+t120_broken : broken t120 [] None ≡ Some (fault 52 0 1 20)
+unfolding symbols_of word_of
+t120_broken = refl
