@@ -1,17 +1,17 @@
-//! Typed expressions, or the first rule that they break (IEEE 1800-2017, 10.8 and 11).
+//! Typed expressions and targets, or the first rule that they break (IEEE 1800-2017, 10.3, 10.8, 11 and 13.5).
 //!
-//! - `table` goes through trees; `conversions` has casts, by what they are to; `dollar` has `$`.
-//! - `actuals` has string literals among arguments; `behind` what stands behind a part of a statement.
+//! - `table` goes through trees: expressions, names with what follows them, arguments, targets.
+//! - `dollar` has `$`; `operands` says where the parts of an operator stand, `before` what stands in a target before a suffix; `places` has
+//!   first tokens.
 //!
-//! Each function answers what its definition in `sv_names` gives, or the first rule that is broken, or that memory ran out. What is not
-//! written yet answers want of memory too: in `expr` names with what follows them, system names and `super.new`; and casts to a name.
+//! Each function answers what its definition in `sv_names` gives, or the first rule that is broken, or that memory ran out.
 #![tactic(auto)]
 
-mod actuals;
-mod behind;
-mod conversions;
+mod before;
 mod dollar;
+mod operands;
+mod places;
 mod table;
 
-pub use conversions::cast;
-pub use table::{expr, place_of};
+pub use places::place_of;
+pub use table::{args, expr, target_in};
