@@ -254,7 +254,7 @@ fn some_signal(
 impl<'a> Thing<'a> {
     /// The thing as a value, in an expression that begins at the place. E7: it is a clocking block, a type or a function without brackets,
     /// or the result variable of an activation in the initializer of a static one; E47: a signal that is no input; E51: a result variable
-    /// is printed later, and does not last. Calls without brackets are not written yet.
+    /// is printed later, and does not last; what a call without brackets breaks (13.4.1).
     pub fn value(self, alloc: Global, around: &Around, place: Place) -> Result<Typed, Refusal>
         ensures { Gives result (things.thing_value (around_in around.now) place (thing_in self.entry)) }
     {
