@@ -1,4 +1,4 @@
-//! Tests of elaboration: what names stand for, expressions and targets over trees, and what constants are worth.
+//! Tests of elaboration: what names stand for, the expressions that operators make of constants, and what they are worth.
 //!
 //! They stand in a crate of their own: tests inside a crate are proved together with all of the crate.
 #![tactic(auto)]
@@ -7,7 +7,5 @@
 mod constants;
 #[cfg(test)]
 mod names;
-#[cfg(test)]
-mod table;
 #[cfg(test)]
 mod values;
