@@ -1,0 +1,14 @@
+pub mod Kept
+pub mod SameEnums
+pub mod FitTypes
+pub mod FitOperators
+pub mod FitJoins
+pub mod FitCasts
+pub mod FitSelects
+pub mod FitLiterals
+pub mod FitMethods
+pub mod FitCalls
+pub mod FitThings
+pub mod FitSystem
+pub mod FitScopes
+pub mod Law
