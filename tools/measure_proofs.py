@@ -4,10 +4,10 @@
     tools/measure_proofs.py [NAME..]
 
 Runs `rt ci --anew NAME..` (for all crates where no name is given) on a copy of crates.txt, HANDLES and crates/, without touching the checkout,
-and adds up the processor time of each process that rt starts: for the proof of a crate's library, of its tests, and of its must-fail edits with
-the check that they begin with. What compiles and runs programs and tests is counted with the crate's library and tests. Prints one line of a
-table a crate, in the order of crates.txt, and the whole, and the minutes by the clock. Other load on the machine makes all figures larger.
-It is no part of the gate.
+and adds up the processor time of each process that rt starts: for the proof of a crate's library, of its tests, of the check that its must-fail
+edits begin with (the seed), and of the edits. What compiles and runs programs and tests is counted with the crate's library and tests. Prints one
+line of a table a crate, in the order of crates.txt, and the whole, the edits that took a minute or more, and the minutes by the clock. Other load
+on the machine makes all figures larger. It is no part of the gate.
 """
 import os
 import re
@@ -22,7 +22,7 @@ from pathlib import Path
 TOP = Path(__file__).resolve().parent.parent
 TICKS = os.sysconf('SC_CLK_TCK')
 PAUSE = 0.1
-KINDS = ['library', 'tests', 'edits']
+KINDS = ['library', 'tests', 'seed', 'edits']
 
 
 def processes():
@@ -60,15 +60,18 @@ class Times:
         self.labels = {root: None}
 
     def label(self, number, parent):
-        """The crate and the kind of a process: those that its words tell, or its parent's."""
+        """The crate, the kind and the edit of a process: those that its words tell, or its parent's."""
         words = read_words(number)
         if '--crate-name' not in words[:-1]:
             return self.labels[parent]
         crate = words[words.index('--crate-name') + 1]
         if '--test' in words:
-            return crate, 'tests'
-        is_edit = 'rt-edits-' in '\0'.join(words) or re.search(r'/rt-(edits|edit|fail)', read_link(f'/proc/{number}/cwd'))
-        return crate, 'edits' if is_edit else 'library'
+            return crate, 'tests', None
+        over = re.search(r'rt-edits-[^/]*/(seed|[0-9]+)', '\0'.join(words))
+        if over:
+            return (crate, 'seed', None) if over[1] == 'seed' else (crate, 'edits', int(over[1]))
+        is_edit = re.search(r'/rt-(edits|edit|fail)', read_link(f'/proc/{number}/cwd'))
+        return crate, 'edits' if is_edit else 'library', None
 
     def sample(self):
         found = list(processes())
@@ -87,11 +90,14 @@ class Times:
                 self.seconds[number] = max(seconds, self.seconds.get(number, 0))
 
     def sums(self):
-        sums = defaultdict(float)
+        """The seconds of each crate's kinds, and of each edit by its place among its crate's."""
+        sums, edits = defaultdict(float), defaultdict(float)
         for number, seconds in self.seconds.items():
             if self.labels[number]:
-                sums[self.labels[number]] += seconds
-        return sums
+                crate, kind, edit = self.labels[number]
+                sums[crate, kind] += seconds
+                edits[crate, edit] += seconds
+        return sums, {it: seconds for it, seconds in edits.items() if it[1] is not None}
 
 
 def measured(folder, names):
@@ -102,7 +108,7 @@ def measured(folder, names):
         while ran.poll() is None:
             times.sample()
             time.sleep(PAUSE)
-    return (folder / 'ci.log').read_text().splitlines()[-1:], times.sums()
+    return (folder / 'ci.log').read_text().splitlines()[-1:], *times.sums()
 
 
 def main():
@@ -114,8 +120,9 @@ def main():
             shutil.copy2(TOP / part, folder)
         shutil.copytree(TOP / 'crates', folder / 'crates', ignore=lambda at, _: ['out'] if Path(at).parent.name == 'crates' else [])
         subprocess.run(['git', 'init', '-q', name], check=True)
-        end, sums = measured(folder, sys.argv[1:])
+        end, sums, edits = measured(folder, sys.argv[1:])
         shutil.copy2(folder / 'ci.log', Path(tempfile.gettempdir(), 'measure_proofs.log'))
+        names = {crate: sorted((folder / 'crates' / crate / 'must-fail').glob('*.edit')) for crate in crates}
     print('| Crate | ' + ' | '.join(KINDS) + ' | all |')
     print('|---' * (len(KINDS) + 2) + '|')
     for crate in [it for it in crates if any(sums[it, kind] for kind in KINDS)]:
@@ -123,6 +130,9 @@ def main():
         print(f'| {crate} | ' + ' | '.join(f'{it:.1f}' for it in row) + f' | {sum(row):.1f} |')
     row = [sum(sums[crate, kind] for crate in crates) / 60 for kind in KINDS]
     print('| all | ' + ' | '.join(f'{it:.1f}' for it in row) + f' | {sum(row):.1f} |')
+    for (crate, number), seconds in sorted(edits.items(), key=lambda it: -it[1]):
+        if seconds >= 60:
+            print(f'{crate}/{names[crate][number].stem}: {seconds / 60:.1f}')
     print(f'{(time.time() - begun) / 60:.1f} minutes by the clock on {os.cpu_count()} processors; rt ci: {" ".join(end)}')
 
 
