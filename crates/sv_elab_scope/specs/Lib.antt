@@ -1,0 +1,11 @@
+pub mod Views
+pub mod Stages
+pub mod Rows
+pub mod Settling
+pub mod Starting
+pub mod Ids
+pub mod Changes
+pub mod Needs
+pub mod Loops
+pub mod Ending
+pub mod Repeated
