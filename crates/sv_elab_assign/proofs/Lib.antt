@@ -1,0 +1,4 @@
+mod AmountLaws
+mod BesideLaws
+mod TargetLaws
+mod WholeLaws

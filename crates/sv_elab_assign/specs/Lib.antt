@@ -1,0 +1,4 @@
+pub mod Amounts
+pub mod Forms
+pub mod Places
+pub mod Wholes
