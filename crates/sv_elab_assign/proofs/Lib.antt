@@ -1,4 +1,6 @@
 mod AmountLaws
 mod BesideLaws
+mod MakingLaws
+mod OpeningLaws
 mod TargetLaws
 mod WholeLaws

@@ -6,12 +6,14 @@ use Rattle.sv_flat.specs.declared.stmt.Form.{Form}
 use Rattle.sv_flat.specs.declared.stmt.Form.TheVariants as form
 use Rattle.sv_flat.specs.declared.target.Container.{Container}
 use Rattle.sv_flat.specs.declared.target.Lvalue.{Lvalue}
+use Rattle.sv_flat.specs.Expr as flat
 use Rattle.sv_tree.specs.declared.expr.Root.TheVariants as root
 use Rattle.sv_tree.specs.declared.word.BinaryWord.{BinaryWord}
 use Rattle.sv_tree.specs.declared.word.Name.{Name}
 use Rattle.sv_tree.specs.Expr as tree
 use Rattle.sv_tree.specs.Expr.{place_of}
-use Rattle.sv_tree.specs.Stmt.{Init, Value, Copy, Array}
+use Rattle.sv_tree.specs.Stmt.{Init, Value, New, Copy, Array}
+use Rattle.sv_names.specs.declared.argument.Arg.{Arg}
 use Rattle.sv_names.specs.declared.checked.Fault.{Fault}
 use Rattle.sv_names.specs.declared.checked.Checked.{Checked}
 use Rattle.sv_names.specs.declared.checked.Checked.TheVariants.{Good, Broken}
@@ -19,7 +21,8 @@ use Rattle.sv_names.specs.declared.hoisted.Hoisted.{Hoisted}
 use Rattle.sv_names.specs.declared.ty.Ty.{Ty}
 use Rattle.sv_names.specs.declared.typed.How.TheVariants.{Statement}
 use Rattle.sv_names.specs.declared.typed.Typed.{Typed}
-use Rattle.sv_names.specs.Assignments.{Amount, init_alone, given_behind, not_late, resized, old_given, no_container, later_given, begin_of, later_behind, read_and_written, place_of_lval, updated}
+use Rattle.sv_names.specs.Arguments.{values_stand}
+use Rattle.sv_names.specs.Assignments.{Amount, made, array_given, init_alone, given_behind, not_late, resized, old_given, no_container, later_given, begin_of, later_behind, read_and_written, place_of_lval, updated}
 use Rattle.sv_names.specs.Calls.{call_stands}
 use Rattle.sv_names.specs.Checked.{both, ◌▷◌, given, ◌where_also◌, only, also_broken, earlier}
 use Rattle.sv_names.specs.Expressions.{expr, target}
@@ -32,8 +35,8 @@ use Rattle.sv_names.specs.Values.{exactly}
 use Rattle.sv_elab_assign.specs.declared.amount.Amount as amount
 use Rattle.sv_elab_assign.specs.declared.arrays.Source as arrays
 use Rattle.sv_elab_assign.specs.Forms.{written_back}
-use Rattle.sv_elab_assign.specs.Places.{behind_parts, around_both, value_there, named_there, source_around, later_there}
-use Rattle.sv_elab_assign.specs.Wholes.{parts_in, given_behind_both, value_behind, copy_behind, old_of, array_behind, array_alone, IsSource, later_parts, updated_by}
+use Rattle.sv_elab_assign.specs.Places.{behind_parts, around_both, value_there, named_there, args_both, args_there, source_around, later_there}
+use Rattle.sv_elab_assign.specs.Wholes.{parts_in, given_behind_both, value_behind, copy_behind, made_behind, IsMade, old_of, array_of, array_behind, array_alone, IsSource, later_parts, updated_by}
 
 -- a target with its delay
 abbrev Parts : Type 0
@@ -91,6 +94,26 @@ module _ (ar : Around) (t : Checked (List Spot)) (d : Checked (Option Amount)) w
       ap (λ (y : Checked Typed). also_broken f (only y)) (stands_at (Broken f) (tree.Post (root.Plain n) tree.NoSuffix) x h is)
       ∙ whole_of (Broken f) (Copy at n) h
 
+  -- ---- `new`
+
+  -- the arguments of `new` where they stand
+  args_at : (b : Checked Parts) (a : tree.Actuals) (as' : List Arg) → b ≡ both t d → as' ≡ args_there ar t d a → as' ≡ args_both ar b a
+  args_at b a as' h is = is ∙ ap (λ (c : Checked Parts). args_both ar c a) (sym h)
+
+  pub new_whole : (p : Parts) (a : tree.Actuals) (as' : List Arg) (at : Place) (x : Checked (Hoisted flat.Expr)) → Good p ≡ both t d
+      → as' ≡ args_there ar t d a → IsMade ar (both t d) at as' x → made_behind ar p.1 at p.0 x ≡ given_behind ar t d (New at a)
+  new_whole p a as' at x h is made_so =
+      let inner : Around = behind_parts ar p.0 p.1 in
+      let there : x ≡ made inner at p.0 as' (type_of_target p.0) = subst (λ (b : Checked Parts). IsMade ar b at as' x) (sym h) made_so in
+      ap (made_behind ar p.1 at p.0) there
+      ∙ ap (λ (xs : List Arg). made_behind ar p.1 at p.0 (made inner at p.0 xs (type_of_target p.0))) (args_at (Good p) a as' h is)
+      ∙ whole_of (Good p) (New at a) h
+
+  pub new_beside : (f : Fault) (a : tree.Actuals) (as' : List Arg) (at : Place) → Broken f ≡ both t d → as' ≡ args_there ar t d a
+      → also_broken f (values_stand as') ≡ given_behind ar t d (New at a)
+  new_beside f a as' at h is =
+      ap (λ (xs : List Arg). also_broken f (values_stand xs)) (args_at (Broken f) a as' h is) ∙ whole_of (Broken f) (New at a) h
+
 -- ---- `new[n]`
 
 -- what is copied
@@ -119,21 +142,24 @@ module _ (ar : Around) (d : Option Amount) (at : Place) (ss : List Spot) where
       ▷ (λ p. resized ar d at p.0 p.1 ss))
       where_also call_stands ar at
 
+  pub array_stands : (n : tree.Expr) (old : Option tree.Expr) (q : Place) (x : Checked Typed) (s : Option arrays.Source) → q ≡ place_of n → x ≡ expr ar n
+      → IsSource (behind (hidden_in x) ar) s old → array_of ar d at q x s ss ≡ array_given ar d at n old ss
+  array_stands n old q x s place is source =
+      let to : Ty = type_of_target ss in
+      ap (λ (o : Checked (Option (Hoisted Container))). array_over q x o) (old_is (behind (hidden_in x) ar) to s old source)
+      ∙ ap (λ (y : Checked Typed). array_over q y (old_given (behind (hidden_in y) ar) to old)) is
+      ∙ ap (λ (r : Place). array_over r (expr ar n) (old_given (behind (hidden_in (expr ar n)) ar) to old)) place
+
 module _ (ar : Around) (t : Checked (List Spot)) (d : Checked (Option Amount)) where
   pub array_whole : (p : Parts) (n : tree.Expr) (old : Option tree.Expr) (at q : Place) (x : Checked Typed) (s : Option arrays.Source)
       → Good p ≡ both t d → q ≡ place_of n → x ≡ value_there ar t d n → IsSource (source_around ar (both t d) x) s old
       → array_behind ar p.1 at q x s p.0 ≡ given_behind ar t d (Array at n old)
   array_whole p n old at q x s h place is source =
       let inner : Around = behind_parts ar p.0 p.1 in
-      let to : Ty = type_of_target p.0 in
-      let there : x ≡ expr inner n = stands_at ar t d (Good p) n x h is in
       let stands : IsSource (behind (hidden_in x) inner) s old =
       subst (λ (b : Checked Parts). IsSource (source_around ar b x) s old) (sym h) source in
-      ap (λ (o : Checked (Option (Hoisted Container))). array_over inner p.1 at p.0 q x o where_also not_late p.1 p.0)
-      (old_is (behind (hidden_in x) inner) to s old stands)
-      ∙ ap (λ (y : Checked Typed). array_over inner p.1 at p.0 q y (old_given (behind (hidden_in y) inner) to old) where_also not_late p.1 p.0) there
-      ∙ ap (λ (r : Place). array_over inner p.1 at p.0 r (expr inner n) (old_given (behind (hidden_in (expr inner n)) inner) to old) where_also not_late p.1 p.0)
-      place
+      ap (λ (c : Checked (Hoisted Form)). c where_also not_late p.1 p.0)
+      (array_stands inner p.1 at p.0 n old q x s place (stands_at ar t d (Good p) n x h is) stands)
       ∙ whole_of ar t d (Good p) (Array at n old) h
 
   pub array_beside : (f : Fault) (n : tree.Expr) (old : Option tree.Expr) (at : Place) (x : Checked Typed) (s : Option arrays.Source)

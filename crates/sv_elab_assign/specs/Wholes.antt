@@ -3,21 +3,23 @@ use Rattle.std.specs.Prelude.{◌≡◌, List, Option, Some, None, if◌then◌e
 use Rattle.sv_value.specs.declared.place.Place.{Place}
 use Rattle.sv_flat.specs.declared.stmt.Form.{Form}
 use Rattle.sv_flat.specs.declared.target.Container.{Container}
+use Rattle.sv_flat.specs.Expr as flat
 use Rattle.sv_tree.specs.declared.word.BinaryWord.{BinaryWord}
 use Rattle.sv_tree.specs.Expr as tree
 use Rattle.sv_tree.specs.Expr.{place_of}
 use Rattle.sv_tree.specs.Stmt.{Init}
+use Rattle.sv_names.specs.declared.argument.Arg.{Arg}
 use Rattle.sv_names.specs.declared.checked.Checked.{Checked}
 use Rattle.sv_names.specs.declared.checked.Checked.TheVariants.{Good, Broken}
 use Rattle.sv_names.specs.declared.hoisted.Hoisted.{Hoisted}
 use Rattle.sv_names.specs.declared.ty.Ty.{Ty}
 use Rattle.sv_names.specs.declared.typed.Typed.{Typed}
-use Rattle.sv_names.specs.Assignments.{Amount, value_given, copy_given, resized, old_container, init_alone, init_given, not_late, later_given, begin_of, read_and_written}
+use Rattle.sv_names.specs.Assignments.{Amount, assign_form, made, value_given, copy_given, resized, old_container, init_alone, init_given, not_late, later_given, begin_of, read_and_written}
 use Rattle.sv_names.specs.Calls.{call_stands}
 use Rattle.sv_names.specs.Checked.{both, ◌▷◌, given, ◌where_also◌, only, also_broken}
 use Rattle.sv_names.specs.Expressions.{expr}
 use Rattle.sv_names.specs.Named.{Around, behind}
-use Rattle.sv_names.specs.Targets.{Spot, type_of_target, hidden_of_spots}
+use Rattle.sv_names.specs.Targets.{Spot, lvalues, type_of_target, hidden_of_spots}
 use Rattle.sv_names.specs.Types.{longint_type, is_dynamic}
 use Rattle.sv_names.specs.Values.{exactly}
 use Rattle.sv_elab_assign.specs.declared.amount.Amount as amount
@@ -53,6 +55,21 @@ value_behind ar d pv ss x = (x ▷ value_given (behind_parts ar ss d) d pv ss) w
 -- `new h` behind a target and a delay
 abbrev pub copy_behind : Around → Option Amount → Place → List Spot → Checked Typed → Checked (Hoisted Form)
 copy_behind ar d at ss x = (x ▷ copy_given (behind_parts ar ss d) d at ss) where_also not_late d ss
+
+-- ---- `new`
+
+-- what is made, for a target
+abbrev pub made_for : Around → Option Amount → Place → List Spot → Checked (Hoisted flat.Expr) → Checked (Hoisted Form)
+made_for ar d at ss x = given (assign_form d (lvalues ar ss)) x where_also call_stands ar at
+
+-- the same behind a target and a delay
+abbrev pub made_behind : Around → Option Amount → Place → List Spot → Checked (Hoisted flat.Expr) → Checked (Hoisted Form)
+made_behind ar d at ss x = made_for (behind_parts ar ss d) d at ss x where_also not_late d ss
+
+-- whether it is what `new` makes there; behind what breaks a rule nothing is made
+abbrev pub IsMade : Around → Checked (List Spot × Option Amount) → Place → List Arg → Checked (Hoisted flat.Expr) → Type 0
+IsMade ar (Good p) at as' x = x ≡ made (behind_parts ar p.0 p.1) at p.0 as' (type_of_target p.0)
+IsMade ar (Broken f) at as' x = Unit {0}
 
 -- ---- `new[n]`
 

@@ -48,7 +48,7 @@ fn copy_call(object: Hoisted<Expr>) -> Hoisted<CallForm>
 }
 
 /// What a call gives, in a hidden variable of a type.
-fn made_by(
+pub(crate) fn made_by(
     alloc: Global,
     around: &Around,
     at: Place,

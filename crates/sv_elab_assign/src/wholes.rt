@@ -1,9 +1,12 @@
 // Blocking assignments: a target, perhaps a delay, and what is behind the `=` (IEEE 1800-2017, 7.5.1, 8.12, 9.4.5 and 10.4.1).
-ghost use Rattle.std.specs.Prelude.{◌≡◌, Option};
+ghost use Rattle.std.specs.Prelude.{◌≡◌, List, Option};
 ghost use Rattle.sv_tree.specs.declared.word.Name.{Name as name_of};
 ghost use Rattle.sv_tree.specs.Expr as tree;
 ghost use Rattle.sv_tree.specs.Stmt as stmts;
+ghost use Rattle.sv_names.specs.declared.argument.Arg.{Arg as arg};
+ghost use Rattle.sv_names.specs.Arguments as arguments;
 ghost use Rattle.sv_names.specs.Assignments as assignments;
+ghost use Rattle.sv_names.specs.Targets as targets;
 ghost use Rattle.sv_names.specs.Checked as rules;
 ghost use Rattle.sv_names.specs.Checked.{◌▷◌, given, both};
 ghost use Rattle.sv_names.specs.Given.{Gives};
@@ -17,10 +20,11 @@ use crate::arrays::{Source, array_given};
 use crate::beside::{also_broken, both_parts, only};
 use crate::copies::copy_given;
 use crate::standing::behind_parts;
-use crate::written::{not_late, value_given};
+use crate::written::{assign_parts, not_late, value_given};
 use std::alloc::Global;
+use sv_elab_call::call_stands;
 use sv_elab_select::Spot;
-use sv_flat::Form;
+use sv_flat::{Expr, Form};
 use sv_names::{Around, Checked, Hoisted, Refusal, Typed, earlier_in, where_also};
 use sv_value::{Place, Seq};
 
@@ -82,7 +86,7 @@ pub fn assign(
 // ---- `new h`
 
 /// A copy of what may break a rule, for a target.
-fn copy_in(
+pub(crate) fn copy_in(
     alloc: Global,
     around: &Around,
     amount: Option<Amount>,
@@ -130,6 +134,81 @@ pub fn assign_copy(
     match both_parts(target, amount) {
         Checked::Good((spots, amount)) => copy_behind(alloc, around, amount, at, spots, value),
         Checked::Broken(f) => also_broken(f, &only(&value)),
+    }
+}
+
+// ---- `new`
+
+/// What `new` makes, for a target; it is a call (E24, E25).
+fn made_for(
+    alloc: Global,
+    around: &Around,
+    amount: Option<Amount>,
+    at: Place,
+    spots: Seq<Spot>,
+    made: Checked<Hoisted<Expr>>,
+) -> Result<Hoisted<Form>, Refusal>
+    ensures { Gives result (wholes.made_for (around_in around.now) (amount_if amount) at spots made) }
+{
+    let form = made_in(alloc, around, amount, spots, made);
+    where_also(form, call_stands(around, at))
+}
+
+/// The same but for where it stands.
+fn made_in(
+    alloc: Global,
+    around: &Around,
+    amount: Option<Amount>,
+    spots: Seq<Spot>,
+    made: Checked<Hoisted<Expr>>,
+) -> Result<Hoisted<Form>, Refusal>
+    ensures { Gives result
+        (given (assignments.assign_form (amount_if amount) (targets.lvalues (around_in around.now) spots)) made) }
+{
+    match made {
+        Checked::Good(value) => {
+            let form = assign_parts(alloc, around, amount, spots, value)?;
+            Ok(form)
+        }
+        Checked::Broken(f) => Err(f.refusal()),
+    }
+}
+
+/// `new` behind a target and a delay that break no rule.
+fn made_behind(
+    alloc: Global,
+    around: &Around,
+    amount: Option<Amount>,
+    at: Place,
+    spots: Seq<Spot>,
+    made: Checked<Hoisted<Expr>>,
+) -> Result<Hoisted<Form>, Refusal>
+    ensures { Gives result (wholes.made_behind (around_in around.now) (amount_if amount) at spots made) }
+{
+    let inner = behind_parts(around, spots.as_slice(), &amount);
+    let late = not_late(&amount, spots.as_slice());
+    where_also(made_for(alloc, &inner, amount, at, spots, made), late)
+}
+
+/// A blocking assignment of `new`, at the word: of what it makes of its arguments behind the target and the delay, where these break no rule;
+/// else the arguments are judged alone (`alone`). E24 and E25: no call may stand there; E42: a container is the target of a delay.
+pub fn assign_new(
+    alloc: Global,
+    around: &Around,
+    target: Checked<Seq<Spot>>,
+    amount: Checked<Option<Amount>>,
+    at: Place,
+    made: Checked<Hoisted<Expr>>,
+    alone: Checked<()>,
+) -> Result<Hoisted<Form>, Refusal>
+    ensures { (a : tree.Actuals) (as' : List arg) → as' ≡ places.args_there (around_in around.now) target (given amount_if amount) a
+        → alone ≡ arguments.values_stand as'
+        → wholes.IsMade (around_in around.now) (both target (given amount_if amount)) at as' made
+        → Gives result (assignments.given_behind (around_in around.now) target (given amount_if amount) (stmts.New at a)) }
+{
+    match both_parts(target, amount) {
+        Checked::Good((spots, amount)) => made_behind(alloc, around, amount, at, spots, made),
+        Checked::Broken(f) => also_broken(f, &alone),
     }
 }
 

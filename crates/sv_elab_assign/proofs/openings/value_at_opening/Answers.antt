@@ -1,0 +1,12 @@
+use Rattle.std.proofs.Common.{subst}
+use Rattle.sv_flat.specs.declared.object.Initial.{Initial}
+use Rattle.sv_names.specs.declared.checked.Checked.{Checked}
+use Rattle.sv_names.specs.Given.{Gives}
+use Rattle.sv_names.specs.Views.{around_in}
+use Rattle.sv_elab_assign.proofs.OpeningLaws.{value_is}
+use Rattle.sv_elab_assign.proofs.openings.value_at_opening.Goals as goal
+
+pub returns : goal.returns
+returns c e place is =
+    subst (λ (x : Checked Initial). Gives c.value_opening.result x)
+    (value_is (around_in c.args.around.now) c.args.at c.args.ty.now e c.args.place c.args.value place is) c.value_opening.ensures
