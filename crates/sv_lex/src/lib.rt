@@ -18,7 +18,5 @@ mod pieces;
 mod separators;
 mod strings;
 mod tables;
-#[cfg(test)]
-mod tests;
 
 pub use lexer::{LexFault, Lexed, lex};

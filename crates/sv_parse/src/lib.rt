@@ -14,8 +14,6 @@ mod budget;
 mod fault;
 mod names;
 mod part;
-#[cfg(test)]
-mod tests;
 mod tokens;
 mod word;
 mod words;

@@ -13,3 +13,5 @@ mod tokens;
 mod types;
 #[cfg(test)]
 mod units;
+#[cfg(test)]
+mod words;
