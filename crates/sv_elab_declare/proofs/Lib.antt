@@ -1,0 +1,3 @@
+pub mod AddedLaws
+pub mod VariableLaws
+pub mod ArgumentLaws

@@ -1,0 +1,18 @@
+//! What declarations declare: the names of a scope with what each is, from the trees of its declarations (IEEE 1800-2017, 6, 8.4, 13 and 23.9).
+//!
+//! Each call appends the names of one part of a scope in the order of the text: the items of the enums in a type before the names that have it.
+//! - `types` has the items of the enums in types, `variables` the names of declarations, `arguments` those of subroutines.
+//! - `classes` has what a class declares itself, `subroutines` what the scope of a subroutine declares before its statements.
+#![tactic(auto)]
+
+mod arguments;
+mod classes;
+mod subroutines;
+mod types;
+mod variables;
+
+pub use arguments::add_arguments;
+pub use classes::add_class;
+pub use subroutines::{Object, add_subroutine, is_constructor};
+pub use types::{add_dimension_items, add_implied_items, add_items};
+pub use variables::{add_declaration, add_declarations, is_automatic};
