@@ -1,3 +1,4 @@
 pub mod AddedLaws
 pub mod VariableLaws
 pub mod ArgumentLaws
+pub mod BlockLaws

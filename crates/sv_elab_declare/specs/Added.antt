@@ -1,18 +1,17 @@
 -- Names that are appended to those of a scope.
-use Rattle.std.specs.Prelude.{◌≡◌, Bool, List, [], ◌∷◌, ◌++◌, Option, Some, None, map, flat_map}
+use Rattle.std.specs.Prelude.{◌≡◌, Bool, List, [], ◌∷◌, ◌++◌, Option, Some, None, map, option_map}
 use Rattle.sv_tree.specs.declared.word.Direction.TheVariants as direction
 use Rattle.sv_tree.specs.Types as types
 use Rattle.sv_tree.specs.Types.{WrittenType, ImpliedType}
-use Rattle.sv_tree.specs.Units.{Argument}
+use Rattle.sv_tree.specs.Units.{Argument, Method}
 use Rattle.sv_tree.specs.Stmt.{Decl, Declarator}
-use Rattle.sv_tree.specs.StmtView.{decl}
-use Rattle.sv_tree.specs.UnitView.{head}
-use Rattle.sv_tree.specs.declared.unit.Routine.{Routine}
+use Rattle.sv_tree.specs.UnitView.{routine}
+use Rattle.sv_names.specs.Types.{Path}
 use Rattle.sv_names.specs.Entries as entries
 use Rattle.sv_elab_scope.specs.declared.declared.Storage.{Storage}
+use Rattle.sv_elab_scope.specs.declared.declared.DeclaredRoutine.{DeclaredRoutine}
 use Rattle.sv_elab_scope.specs.declared.declared.Entry.{Entry}
 use Rattle.sv_elab_scope.specs.Views.{entry_in, variable_in}
-use Rattle.sv_elab_declare.specs.declared.subroutines.Object.{Object}
 
 -- the names of a scope are those from before, and these behind them
 abbrev pub Added : List Entry → List Entry → List entries.Entry → Type 0
@@ -39,13 +38,10 @@ type_before (Some t) = t
 abbrev pub arguments_after : Bool → Option ImpliedType → List Argument → List entries.Entry
 arguments_after auto before as' = entries.argument_entries auto (entries.taken_from direction.Input (type_before before) as')
 
--- the object of a method
-abbrev pub object_names : Option Object → List entries.Entry
-object_names None = []
-object_names (Some o) = entries.entry o.this.now (entries.The_object_of o.class.now) ∷ []
+-- the class of a method
+abbrev pub class_of : DeclaredRoutine → Option Path
+class_of d = option_map (λ p. p.now) d.class
 
--- what the scope of a subroutine declares before its statements
-abbrev pub subroutine_names : Bool → Option Object → Routine → List entries.Entry
-subroutine_names auto o r =
-    object_names o ++ entries.items_in_implied (entries.result_type (head r.head))
-    ++ entries.argument_entries auto (entries.taken (head r.head)) ++ flat_map (entries.decl_entries auto) (map decl r.decls.items)
+-- a subroutine with the words before it
+abbrev pub method_of : DeclaredRoutine → Method
+method_of d = record { qualifiers = d.qualifiers; routine = routine d.routine.now }
