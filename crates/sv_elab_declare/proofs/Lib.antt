@@ -2,3 +2,4 @@ pub mod AddedLaws
 pub mod VariableLaws
 pub mod ArgumentLaws
 pub mod BlockLaws
+pub mod AloneLaws

@@ -3,11 +3,13 @@
 //! Each call appends the names of one part of a scope in the order of the text: the items of the enums in a type before the names that have it.
 //! - `types` has the items of the enums in types, `variables` the names of declarations, `arguments` those of subroutines.
 //! - `classes` has what a class declares itself, `subroutines` what the scope of a subroutine declares, `blocks` the named blocks of statements.
+//! - `scope` settles a scope that stands alone, as that of a block or a subroutine.
 #![tactic(auto)]
 
 mod arguments;
 mod blocks;
 mod classes;
+mod scope;
 mod subroutines;
 mod types;
 mod variables;
@@ -15,6 +17,7 @@ mod variables;
 pub use arguments::add_arguments;
 pub use blocks::{add_all_blocks, add_blocks};
 pub use classes::add_class;
+pub use scope::{ScopeHead, first_scope, makes_activation, settled_scope};
 pub use subroutines::{
     add_subroutine, is_automatic_subroutine, is_constructor, is_static_method, this_name,
 };
