@@ -14,7 +14,7 @@ use sv_tree::{Actuals, Expr, Kind, Token};
 pub fn maybe_actuals<'a>(alloc: Global, tokens: &'a [Token], budget: Budget) -> Read<'a, Actuals>
     ensures { Reads view.actuals budget grammar.maybe_actuals tokens.now result }
 {
-    let (actuals, rest) = measured_actuals(alloc, tokens, budget)?;
+    let (actuals, rest) = read!(measured_actuals(alloc, tokens, budget));
     Ok((actuals.tree, rest))
 }
 
@@ -23,9 +23,9 @@ pub fn maybe_actuals<'a>(alloc: Global, tokens: &'a [Token], budget: Budget) -> 
 pub fn system_call<'a>(alloc: Global, tokens: &'a [Token], budget: Budget) -> Read<'a, Expr>
     ensures { Reads view.expr budget grammar.system_call tokens.now result }
 {
-    let (token, rest) = expect(tokens, Kind::SystemName)?;
-    let name = name_of(token)?;
-    let (actuals, rest) = maybe_actuals(alloc, rest, budget)?;
+    let (token, rest) = read!(expect(tokens, Kind::SystemName));
+    let name = held!(name_of(token));
+    let (actuals, rest) = read!(maybe_actuals(alloc, rest, budget));
     Ok((Expr::System(name, actuals), rest))
 }
 
@@ -35,14 +35,14 @@ pub fn call<'a>(alloc: Global, tokens: &'a [Token], budget: Budget) -> Read<'a, 
     ensures { Reads view.expr budget grammar.call tokens.now result }
 {
     if is_next(tokens, Kind::Name) {
-        let (post, rest) = named_post(alloc, tokens, budget)?;
+        let (post, rest) = read!(named_post(alloc, tokens, budget));
         return Ok((post_of(post.root, post.suffixes), rest));
     }
     if is_next(tokens, Kind::SystemName) {
         return system_call(alloc, tokens, budget);
     }
     if is_next(tokens, Kind::This) || is_next(tokens, Kind::Super) {
-        let (call, rest) = prim(alloc, tokens, budget)?;
+        let (call, rest) = read!(prim(alloc, tokens, budget));
         return Ok((call.tree, rest));
     }
     Err(ReadError::Unexpected(tokens))

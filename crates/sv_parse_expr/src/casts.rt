@@ -52,12 +52,12 @@ fn cast_operand<'a>(
     ensures reads { Reads (measured view.expr) budget (Map (λ e. tree.Cast to e) grammar.cast) tokens.now result }
     ensures depth { IfOk result (λ x. Fitting budget x.0) }
 {
-    let inner = budget.deeper(tokens)?;
-    let (_, rest) = expect(tokens, Kind::Apostrophe)?;
-    let (_, rest) = expect(rest, Kind::LeftParenthesis)?;
-    let (Measured { tree, depth }, rest) = expression(alloc, rest, inner)?;
-    let (_, rest) = expect(rest, Kind::RightParenthesis)?;
-    let tree = Expr::Cast(to, Box::new(alloc, tree)?);
+    let inner = read!(budget.deeper(tokens));
+    let (_, rest) = read!(expect(tokens, Kind::Apostrophe));
+    let (_, rest) = read!(expect(rest, Kind::LeftParenthesis));
+    let (Measured { tree, depth }, rest) = read!(expression(alloc, rest, inner));
+    let (_, rest) = read!(expect(rest, Kind::RightParenthesis));
+    let tree = Expr::Cast(to, held!(Box::new(alloc, tree)));
     Ok((
         Measured {
             tree,
@@ -78,8 +78,8 @@ pub fn cast_value<'a>(
     requires { 0 < budget }
     ensures { Gives (λ x. (view.expr x.0, toks x.1.now)) result (recast to (reads budget grammar.cast_rest (toks tokens.now))) }
 {
-    let (operand, rest) = cast_operand(alloc, to, tokens, budget)?;
-    let (condition, rest) = operators(alloc, operand, rest, budget, precedences())?;
-    let (value, rest) = choose(alloc, condition, rest, budget)?;
+    let (operand, rest) = read!(cast_operand(alloc, to, tokens, budget));
+    let (condition, rest) = read!(operators(alloc, operand, rest, budget, precedences()));
+    let (value, rest) = read!(choose(alloc, condition, rest, budget));
     Ok((value.tree, rest))
 }

@@ -55,14 +55,14 @@ fn number(tokens: &[Token], budget: Budget) -> Read<Front>
     ensures reads { Begun budget result (reads budget grammar.number (toks tokens.now)) }
     ensures fits { IfOk result (λ x. Fits budget x.0) }
 {
-    let (token, rest) = expect(tokens, Kind::Number)?;
-    let text = token.text.share()?;
+    let (token, rest) = read!(expect(tokens, Kind::Number));
+    let text = held!(token.text.share());
     if !is_next(rest, Kind::Apostrophe) {
         return Ok((Front::Whole(Expr::Number(token.at, text)), rest));
     }
-    let inner = budget.deeper(rest)?;
-    let (_, rest) = expect(rest, Kind::Apostrophe)?;
-    let (_, rest) = expect(rest, Kind::LeftParenthesis)?;
+    let inner = read!(budget.deeper(rest));
+    let (_, rest) = read!(expect(rest, Kind::Apostrophe));
+    let (_, rest) = read!(expect(rest, Kind::LeftParenthesis));
     Ok((
         Front::Bracket(Opening::Cast(CastType::Width(token.at, text)), inner),
         rest,
@@ -75,14 +75,14 @@ fn named(tokens: &[Token], budget: Budget) -> Read<Front>
     ensures reads { Begun budget result (reads budget grammar.named (toks tokens.now)) }
     ensures fits { IfOk result (λ x. Fits budget x.0) }
 {
-    let (first, rest) = name(tokens)?;
+    let (first, rest) = read!(name(tokens));
     if !is_next(rest, Kind::Apostrophe) {
-        let (second, rest) = scope(rest)?;
+        let (second, rest) = read!(scope(rest));
         return Ok((Front::Post(named_root(first, second)), rest));
     }
-    let inner = budget.deeper(rest)?;
-    let (_, rest) = expect(rest, Kind::Apostrophe)?;
-    let (_, rest) = expect(rest, Kind::LeftParenthesis)?;
+    let inner = read!(budget.deeper(rest));
+    let (_, rest) = read!(expect(rest, Kind::Apostrophe));
+    let (_, rest) = read!(expect(rest, Kind::LeftParenthesis));
     Ok((
         Front::Bracket(Opening::Cast(CastType::Named(first)), inner),
         rest,
@@ -96,7 +96,7 @@ fn group<'a>(tokens: &'a [Token], inner: Budget) -> Read<'a, Front>
     ensures reads { Begun (inner + 1) result (reads (inner + 1) grammar.group (toks tokens.now)) }
     ensures fits { IfOk result (λ x. Fits (inner + 1) x.0) }
 {
-    let (open, rest) = expect(tokens, Kind::LeftParenthesis)?;
+    let (open, rest) = read!(expect(tokens, Kind::LeftParenthesis));
     Ok((Front::Bracket(Opening::Group(open.at), inner), rest))
 }
 
@@ -107,9 +107,9 @@ fn word<'a>(tokens: &'a [Token], inner: Budget) -> Read<'a, Front>
     ensures reads { Begun (inner + 1) result (reads (inner + 1) grammar.word_cast (toks tokens.now)) }
     ensures fits { IfOk result (λ x. Fits (inner + 1) x.0) }
 {
-    let (to, rest) = cast_word(tokens)?;
-    let (_, rest) = expect(rest, Kind::Apostrophe)?;
-    let (_, rest) = expect(rest, Kind::LeftParenthesis)?;
+    let (to, rest) = read!(cast_word(tokens));
+    let (_, rest) = read!(expect(rest, Kind::Apostrophe));
+    let (_, rest) = read!(expect(rest, Kind::LeftParenthesis));
     Ok((Front::Bracket(Opening::Cast(to), inner), rest))
 }
 
@@ -119,7 +119,7 @@ fn this(tokens: &[Token]) -> Read<Front>
     ensures reads { (d : ℕ) → Begun d result (reads d grammar.this (toks tokens.now)) }
     ensures fits { (d : ℕ) → IfOk result (λ x. Fits d x.0) }
 {
-    let (word, rest) = expect(tokens, Kind::This)?;
+    let (word, rest) = read!(expect(tokens, Kind::This));
     Ok((Front::Post(Root::This(word.at)), rest))
 }
 
@@ -129,8 +129,8 @@ fn system(tokens: &[Token]) -> Read<Front>
     ensures reads { (d : ℕ) → Begun d result (reads d grammar.system_call (toks tokens.now)) }
     ensures fits { (d : ℕ) → IfOk result (λ x. Fits d x.0) }
 {
-    let (token, rest) = expect(tokens, Kind::SystemName)?;
-    let name = name_of(token)?;
+    let (token, rest) = read!(expect(tokens, Kind::SystemName));
+    let name = held!(name_of(token));
     Ok((Front::Call(Callee::System(name)), rest))
 }
 
@@ -140,13 +140,13 @@ fn super_call(tokens: &[Token]) -> Read<Front>
     ensures reads { (d : ℕ) → Begun d result (reads d grammar.super_call (toks tokens.now)) }
     ensures fits { (d : ℕ) → IfOk result (λ x. Fits d x.0) }
 {
-    let (word, rest) = expect(tokens, Kind::Super)?;
-    let (_, rest) = expect(rest, Kind::Dot)?;
+    let (word, rest) = read!(expect(tokens, Kind::Super));
+    let (_, rest) = read!(expect(rest, Kind::Dot));
     if !is_next(rest, Kind::New) {
-        let (member, rest) = name(rest)?;
+        let (member, rest) = read!(name(rest));
         return Ok((Front::Post(Root::Super(word.at, member)), rest));
     }
-    let (new, rest) = expect(rest, Kind::New)?;
+    let (new, rest) = read!(expect(rest, Kind::New));
     let callee = Callee::SuperNew {
         at: word.at,
         new: new.at,
@@ -160,8 +160,8 @@ fn time(tokens: &[Token]) -> Read<Front>
     ensures reads { (d : ℕ) → Begun d result (reads d grammar.time (toks tokens.now)) }
     ensures fits { (d : ℕ) → IfOk result (λ x. Fits d x.0) }
 {
-    let (token, rest) = expect(tokens, Kind::TimeLiteral)?;
-    let text = token.text.share()?;
+    let (token, rest) = read!(expect(tokens, Kind::TimeLiteral));
+    let text = held!(token.text.share());
     Ok((Front::Whole(Expr::Time(token.at, text)), rest))
 }
 
@@ -171,8 +171,8 @@ fn text(tokens: &[Token]) -> Read<Front>
     ensures reads { (d : ℕ) → Begun d result (reads d grammar.text (toks tokens.now)) }
     ensures fits { (d : ℕ) → IfOk result (λ x. Fits d x.0) }
 {
-    let (token, rest) = expect(tokens, Kind::StringLiteral)?;
-    let text = token.text.share()?;
+    let (token, rest) = read!(expect(tokens, Kind::StringLiteral));
+    let text = held!(token.text.share());
     Ok((Front::Whole(Expr::Text(token.at, text)), rest))
 }
 
@@ -182,7 +182,7 @@ fn null(tokens: &[Token]) -> Read<Front>
     ensures reads { (d : ℕ) → Begun d result (reads d grammar.null_ (toks tokens.now)) }
     ensures fits { (d : ℕ) → IfOk result (λ x. Fits d x.0) }
 {
-    let (token, rest) = expect(tokens, Kind::Null)?;
+    let (token, rest) = read!(expect(tokens, Kind::Null));
     Ok((Front::Whole(Expr::Null(token.at)), rest))
 }
 
@@ -192,7 +192,7 @@ fn dollar(tokens: &[Token]) -> Read<Front>
     ensures reads { (d : ℕ) → Begun d result (reads d grammar.dollar (toks tokens.now)) }
     ensures fits { (d : ℕ) → IfOk result (λ x. Fits d x.0) }
 {
-    let (token, rest) = expect(tokens, Kind::Dollar)?;
+    let (token, rest) = read!(expect(tokens, Kind::Dollar));
     Ok((Front::Whole(Expr::Dollar(token.at)), rest))
 }
 
@@ -203,7 +203,7 @@ pub fn operand(tokens: &[Token], budget: Budget) -> Read<Front>
     ensures fits { IfOk result (λ x. Fits budget x.0) }
 {
     if begins_cast(tokens) {
-        let inner = budget.deeper(tokens)?;
+        let inner = read!(budget.deeper(tokens));
         return word(tokens, inner);
     }
     if is_next(tokens, Kind::Number) {
@@ -234,11 +234,11 @@ pub fn operand(tokens: &[Token], budget: Budget) -> Read<Front>
         return system(tokens);
     }
     if is_next(tokens, Kind::LeftParenthesis) {
-        let inner = budget.deeper(tokens)?;
+        let inner = read!(budget.deeper(tokens));
         return group(tokens, inner);
     }
     if is_next(tokens, Kind::LeftBrace) {
-        let inner = budget.deeper(tokens)?;
+        let inner = read!(budget.deeper(tokens));
         return Ok((Front::Braces(inner), tokens));
     }
     Err(ReadError::Unexpected(tokens))

@@ -63,7 +63,7 @@ impl Part for Values {
     }
 
     fn read<'a>(alloc: Global, tokens: &'a [Token], budget: Budget) -> Read<'a, Expr> {
-        let (_, rest) = expect(tokens, Kind::Equals)?;
+        let (_, rest) = read!(expect(tokens, Kind::Equals));
         value(alloc, rest, budget)
     }
 
@@ -89,9 +89,9 @@ impl Part for Enclosed {
     }
 
     fn read<'a>(alloc: Global, tokens: &'a [Token], budget: Budget) -> Read<'a, Expr> {
-        let (_, rest) = expect(tokens, Kind::LeftParenthesis)?;
-        let (inner, rest) = value(alloc, rest, budget)?;
-        let (_, rest) = expect(rest, Kind::RightParenthesis)?;
+        let (_, rest) = read!(expect(tokens, Kind::LeftParenthesis));
+        let (inner, rest) = read!(value(alloc, rest, budget));
+        let (_, rest) = read!(expect(rest, Kind::RightParenthesis));
         Ok((inner, rest))
     }
 

@@ -26,8 +26,8 @@ pub fn scope(tokens: &[Token]) -> Read<Option<Name>>
     if !is_next(tokens, Kind::ColonColon) {
         return Ok((None, tokens));
     }
-    let (_, rest) = expect(tokens, Kind::ColonColon)?;
-    let (second, rest) = name(rest)?;
+    let (_, rest) = read!(expect(tokens, Kind::ColonColon));
+    let (second, rest) = read!(name(rest));
     Ok((Some(second), rest))
 }
 
@@ -45,7 +45,7 @@ pub fn named_root(first: Name, second: Option<Name>) -> Root
 pub fn suffixes<'a>(alloc: Global, tokens: &'a [Token], budget: Budget) -> Read<'a, Vec<Suffix>>
     ensures { Reads views.all_suffixes budget grammar.suffixes tokens.now result }
 {
-    let (suffixes, rest) = measured_suffixes(alloc, tokens, budget)?;
+    let (suffixes, rest) = read!(measured_suffixes(alloc, tokens, budget));
     Ok((suffixes.tree, rest))
 }
 
@@ -54,10 +54,10 @@ pub fn suffixes<'a>(alloc: Global, tokens: &'a [Token], budget: Budget) -> Read<
 pub fn named_post<'a>(alloc: Global, tokens: &'a [Token], budget: Budget) -> Read<'a, Post>
     ensures { Reads views.post budget grammar.named_post tokens.now result }
 {
-    let (first, rest) = name(tokens)?;
-    let (second, rest) = scope(rest)?;
+    let (first, rest) = read!(name(tokens));
+    let (second, rest) = read!(scope(rest));
     let root = named_root(first, second);
-    let (suffixes, rest) = suffixes(alloc, rest, budget)?;
+    let (suffixes, rest) = read!(suffixes(alloc, rest, budget));
     Ok((Post { root, suffixes }, rest))
 }
 
@@ -66,9 +66,9 @@ pub fn named_post<'a>(alloc: Global, tokens: &'a [Token], budget: Budget) -> Rea
 pub fn this_post<'a>(alloc: Global, tokens: &'a [Token], budget: Budget) -> Read<'a, Post>
     ensures { Reads views.post budget grammar.this_post tokens.now result }
 {
-    let (word, rest) = expect(tokens, Kind::This)?;
+    let (word, rest) = read!(expect(tokens, Kind::This));
     let root = Root::This(word.at);
-    let (suffixes, rest) = suffixes(alloc, rest, budget)?;
+    let (suffixes, rest) = read!(suffixes(alloc, rest, budget));
     Ok((Post { root, suffixes }, rest))
 }
 
@@ -77,11 +77,11 @@ pub fn this_post<'a>(alloc: Global, tokens: &'a [Token], budget: Budget) -> Read
 pub fn super_post<'a>(alloc: Global, tokens: &'a [Token], budget: Budget) -> Read<'a, Post>
     ensures { Reads views.post budget grammar.super_post tokens.now result }
 {
-    let (word, rest) = expect(tokens, Kind::Super)?;
-    let (_, rest) = expect(rest, Kind::Dot)?;
-    let (member, rest) = name(rest)?;
+    let (word, rest) = read!(expect(tokens, Kind::Super));
+    let (_, rest) = read!(expect(rest, Kind::Dot));
+    let (member, rest) = read!(name(rest));
     let root = Root::Super(word.at, member);
-    let (suffixes, rest) = suffixes(alloc, rest, budget)?;
+    let (suffixes, rest) = read!(suffixes(alloc, rest, budget));
     Ok((Post { root, suffixes }, rest))
 }
 

@@ -27,7 +27,7 @@ pub fn lval<'a>(alloc: Global, tokens: &'a [Token], budget: Budget) -> Read<'a, 
     if !begins_post(tokens) {
         return Err(ReadError::Unexpected(tokens));
     }
-    let (post, rest) = any_post(alloc, tokens, budget)?;
+    let (post, rest) = read!(any_post(alloc, tokens, budget));
     Ok((Lval::Post(post.root, post.suffixes), rest))
 }
 
@@ -38,10 +38,10 @@ pub fn targets<'a>(alloc: Global, tokens: &'a [Token], budget: Budget) -> Read<'
     requires { 0 < budget }
     ensures { Reads view.lval budget grammar.targets tokens.now result }
 {
-    let (open, rest) = expect(tokens, Kind::LeftBrace)?;
-    let inner = budget.deeper(tokens)?;
-    let (list, rest) = target_list(alloc, rest, inner)?;
-    let (_, rest) = expect(rest, Kind::RightBrace)?;
+    let (open, rest) = read!(expect(tokens, Kind::LeftBrace));
+    let inner = read!(budget.deeper(tokens));
+    let (list, rest) = read!(target_list(alloc, rest, inner));
+    let (_, rest) = read!(expect(rest, Kind::RightBrace));
     Ok((join_targets(open.at, list), rest))
 }
 
@@ -50,7 +50,7 @@ pub fn targets<'a>(alloc: Global, tokens: &'a [Token], budget: Budget) -> Read<'
 fn comma_target<'a>(alloc: Global, tokens: &'a [Token], budget: Budget) -> Read<'a, Lval>
     ensures { Reads view.lval budget (comma grammar.lval) tokens.now result }
 {
-    let (_, rest) = expect(tokens, Kind::Comma)?;
+    let (_, rest) = read!(expect(tokens, Kind::Comma));
     lval(alloc, rest, budget)
 }
 
@@ -60,13 +60,13 @@ fn comma_target<'a>(alloc: Global, tokens: &'a [Token], budget: Budget) -> Read<
 fn target_list<'a>(alloc: Global, tokens: &'a [Token], budget: Budget) -> Read<'a, Vec<Lval>>
     ensures { Reads (seen view.lval) budget (list_of grammar.lval) tokens.now result }
 {
-    let (first, after) = lval(alloc, tokens, budget)?;
+    let (first, after) = read!(lval(alloc, tokens, budget));
     let mut targets = Vec::new(alloc);
-    targets.push(first)?;
+    held!(targets.push(first));
     let mut rest = after;
     'commas: while is_next(rest, Kind::Comma) {
-        let (next, after) = comma_target(alloc, rest, budget)?;
-        targets.push(next)?;
+        let (next, after) = read!(comma_target(alloc, rest, budget));
+        held!(targets.push(next));
         rest = after;
     }
     Ok((targets, rest))

@@ -12,6 +12,6 @@ use sv_tree::{Expr, Token};
 pub fn value<'a>(alloc: Global, tokens: &'a [Token], budget: Budget) -> Read<'a, Expr>
     ensures { Reads view.expr budget grammar.expr tokens.now result }
 {
-    let (value, rest) = expression(alloc, tokens, budget)?;
+    let (value, rest) = read!(expression(alloc, tokens, budget));
     Ok((value.tree, rest))
 }

@@ -51,6 +51,17 @@ item_default d ts some h = default_first d ts some h ∙ go (one_of (code k.Defa
     go (Ok t) = second t.0 (reads 0 (optional (tok k.Colon)) t.1)
     go (Err m) = refl
 
+-- "default", and the statement after it
+pub default_follows : (d : ℕ) (ts : List Tok) (t : Tok × List Tok) (c : Option Tok × List Tok) → 0 < d → mem (next ts).code (code k.Default ∷ []) ≡ true → one_of (code k.Default ∷ []) ts ≡ Ok t → reads 0 (optional (tok k.Colon)) t.1 ≡ Ok c
+    → Follows (λ s. Ok ((λ others. stmts.Default s.0 others), s.1)) (reads d statement c.1) (reads d case_item ts)
+default_follows d ts t c some on h g = (λ m f. all ∙ ap give f, λ y f. all ∙ ap give f)
+  where
+    give : Out stmts.Stmt → Out (stmts.CaseItems → stmts.CaseItems)
+    give o = o >>= λ s. Ok ((λ others. stmts.Default s.0 others), s.1)
+
+    all : reads d case_item ts ≡ give (reads d statement c.1)
+    all = item_default d ts some on ∙ rw (h, g) refl
+
 labels_first : (d : ℕ) (ts : List Tok) → 0 < d → mem (next ts).code (code k.Default ∷ []) ≡ false → reads d case_item ts ≡ reads d labelled_item ts
 unfolding case_item
 labels_first d ts some h = rw (ap (λ (i : Info). i.first) known.default_item_known.info_is, h, known.labelled_item_known.low_is, reach_one d some) refl

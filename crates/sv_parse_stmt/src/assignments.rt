@@ -35,16 +35,16 @@ fn begins_assignment(tokens: &[Token]) -> bool
 fn blocking<'a>(alloc: Global, target: Lval, tokens: &'a [Token], budget: Budget) -> Read<'a, Body>
     ensures { Gives (λ x. (view.body x.0, toks x.1.now)) result (applied (view.lval target) (reads budget grammar.blocking_rest (toks tokens.now))) }
 {
-    let (_, rest) = expect(tokens, Kind::Equals)?;
-    let (delay, rest) = maybe::<Delays>(alloc, rest, budget)?;
-    let (value, rest) = init(alloc, rest, budget)?;
-    let (_, rest) = expect(rest, Kind::Semicolon)?;
+    let (_, rest) = read!(expect(tokens, Kind::Equals));
+    let (delay, rest) = read!(maybe::<Delays>(alloc, rest, budget));
+    let (value, rest) = read!(init(alloc, rest, budget));
+    let (_, rest) = read!(expect(rest, Kind::Semicolon));
     let assignment = BlockingAssignment {
         target,
         delay,
         value,
     };
-    Ok((Body::Blocking(Box::new(alloc, assignment)?), rest))
+    Ok((Body::Blocking(held!(Box::new(alloc, assignment))), rest))
 }
 
 /// `"<=" [delay] expr ";"`
@@ -57,16 +57,16 @@ fn nonblocking<'a>(
 ) -> Read<'a, Body>
     ensures { Gives (λ x. (view.body x.0, toks x.1.now)) result (applied (view.lval target) (reads budget grammar.nonblocking_rest (toks tokens.now))) }
 {
-    let (_, rest) = expect(tokens, Kind::LessEquals)?;
-    let (delay, rest) = maybe::<Delays>(alloc, rest, budget)?;
-    let (value, rest) = value(alloc, rest, budget)?;
-    let (_, rest) = expect(rest, Kind::Semicolon)?;
+    let (_, rest) = read!(expect(tokens, Kind::LessEquals));
+    let (delay, rest) = read!(maybe::<Delays>(alloc, rest, budget));
+    let (value, rest) = read!(value(alloc, rest, budget));
+    let (_, rest) = read!(expect(rest, Kind::Semicolon));
     let assignment = NonblockingAssignment {
         target,
         delay,
         value,
     };
-    Ok((Body::Nonblocking(Box::new(alloc, assignment)?), rest))
+    Ok((Body::Nonblocking(held!(Box::new(alloc, assignment))), rest))
 }
 
 /// `aop expr ";"`
@@ -79,15 +79,15 @@ fn by_operator<'a>(
 ) -> Read<'a, Body>
     ensures { Gives (λ x. (view.body x.0, toks x.1.now)) result (applied (view.lval target) (reads budget grammar.operator_rest (toks tokens.now))) }
 {
-    let ((_, word), rest) = expect_word::<BinaryWord>(tokens)?;
-    let (value, rest) = value(alloc, rest, budget)?;
-    let (_, rest) = expect(rest, Kind::Semicolon)?;
+    let ((_, word), rest) = read!(expect_word::<BinaryWord>(tokens));
+    let (value, rest) = read!(value(alloc, rest, budget));
+    let (_, rest) = read!(expect(rest, Kind::Semicolon));
     let assignment = OperatorAssignment {
         target,
         word,
         value,
     };
-    Ok((Body::Operator(Box::new(alloc, assignment)?), rest))
+    Ok((Body::Operator(held!(Box::new(alloc, assignment))), rest))
 }
 
 /// `("++" | "--") ";"`
@@ -95,8 +95,8 @@ fn by_operator<'a>(
 fn step<'a>(target: Lval, tokens: &'a [Token]) -> Read<'a, Body>
     ensures { (d : ℕ) → Gives (λ x. (view.body x.0, toks x.1.now)) result (applied (view.lval target) (reads d grammar.step_after (toks tokens.now))) }
 {
-    let ((_, word), rest) = expect_word::<StepWord>(tokens)?;
-    let (_, rest) = expect(rest, Kind::Semicolon)?;
+    let ((_, word), rest) = read!(expect_word::<StepWord>(tokens));
+    let (_, rest) = read!(expect(rest, Kind::Semicolon));
     Ok((Body::Step(target, word), rest))
 }
 
@@ -136,7 +136,7 @@ pub fn post_end<'a>(
     if begins_assignment(tokens) {
         return assignment(alloc, Lval::Post(root, list), tokens, budget);
     }
-    let (_, rest) = expect(tokens, Kind::Semicolon)?;
+    let (_, rest) = read!(expect(tokens, Kind::Semicolon));
     Ok((Body::Call(post_of(root, list)), rest))
 }
 
@@ -150,7 +150,7 @@ pub fn named_rest<'a>(
 ) -> Read<'a, Body>
     ensures { Gives (λ x. (view.body x.0, toks x.1.now)) result (applied first (reads budget grammar.named_rest (toks tokens.now))) }
 {
-    let (second, rest) = scope(tokens)?;
-    let (list, rest) = suffixes(alloc, rest, budget)?;
+    let (second, rest) = read!(scope(tokens));
+    let (list, rest) = read!(suffixes(alloc, rest, budget));
     post_end(alloc, named_root(first, second), list, rest, budget)
 }

@@ -36,7 +36,7 @@ fn declaration<'a>(alloc: Global, tokens: &'a [Token], budget: Budget) -> Read<'
     if begins_word_decl(tokens) {
         return word_decl(alloc, tokens, budget);
     }
-    let (first, rest) = name(tokens)?;
+    let (first, rest) = read!(name(tokens));
     named_decl_rest(alloc, first, rest, budget)
 }
 
@@ -48,8 +48,8 @@ fn declarations<'a>(alloc: Global, tokens: &'a [Token], budget: Budget) -> Read<
     let mut list = Vec::new(alloc);
     let mut rest = tokens;
     'decls: while begins_decl(rest) {
-        let (item, after) = declaration(alloc, rest, budget)?;
-        list.push(item)?;
+        let (item, after) = read!(declaration(alloc, rest, budget));
+        held!(list.push(item));
         rest = after;
     }
     Ok((list, rest))
@@ -62,7 +62,7 @@ fn no_statement<'a>(tokens: &'a [Token]) -> Result<(), ReadError<'a>>
     ensures { Closes result (toks tokens.now) }
 {
     if is_next(tokens, Kind::Name) {
-        let (_, rest) = expect(tokens, Kind::Name)?;
+        let (_, rest) = read!(expect(tokens, Kind::Name));
         if goes_on_named(rest) {
             return Err(ReadError::TooDeep(rest));
         }
@@ -78,11 +78,11 @@ fn no_statement<'a>(tokens: &'a [Token]) -> Result<(), ReadError<'a>>
 pub fn opening<'a>(alloc: Global, tokens: &'a [Token], budget: Budget) -> Read<'a, Vec<Decl>>
     ensures { Opens budget result (toks tokens.now) }
 {
-    let (decls, rest) = declarations(alloc, tokens, budget)?;
+    let (decls, rest) = read!(declarations(alloc, tokens, budget));
     if budget.left() > 0 {
         return Ok((decls, rest));
     }
-    no_statement(rest)?;
+    read!(no_statement(rest));
     Ok((decls, rest))
 }
 
@@ -93,9 +93,9 @@ pub fn opening<'a>(alloc: Global, tokens: &'a [Token], budget: Budget) -> Read<'
 pub fn block<'a>(alloc: Global, tokens: &'a [Token], budget: Budget) -> ReadFront<'a>
     ensures { Begun budget result (reads budget grammar.block (toks tokens.now)) }
 {
-    let (word, rest) = expect(tokens, Kind::Begin)?;
-    let (name, rest) = label(rest)?;
-    let (decls, rest) = opening(alloc, rest, budget)?;
+    let (word, rest) = read!(expect(tokens, Kind::Begin));
+    let (name, rest) = read!(label(rest));
+    let (decls, rest) = read!(opening(alloc, rest, budget));
     let head = BlockHead {
         at: word.at,
         word: BlockWord::Begin,
@@ -110,9 +110,9 @@ pub fn block<'a>(alloc: Global, tokens: &'a [Token], budget: Budget) -> ReadFron
 pub fn fork<'a>(alloc: Global, tokens: &'a [Token], budget: Budget) -> ReadFront<'a>
     ensures { Begun budget result (reads budget grammar.fork (toks tokens.now)) }
 {
-    let (word, rest) = expect(tokens, Kind::Fork)?;
-    let (name, rest) = label(rest)?;
-    let (decls, rest) = opening(alloc, rest, budget)?;
+    let (word, rest) = read!(expect(tokens, Kind::Fork));
+    let (name, rest) = read!(label(rest));
+    let (decls, rest) = read!(opening(alloc, rest, budget));
     let head = BlockHead {
         at: word.at,
         word: BlockWord::Fork,
@@ -168,14 +168,14 @@ pub fn block_end<'a>(head: BlockHead, stmts: Vec<Stmt>, tokens: &'a [Token]) -> 
     } = head;
     match word {
         BlockWord::Begin => {
-            let (_, rest) = expect(tokens, Kind::End)?;
-            let (label, rest) = label(rest)?;
+            let (_, rest) = read!(expect(tokens, Kind::End));
+            let (label, rest) = read!(label(rest));
             let body = block_of(name, decls, stmts, label);
             Ok((Placed { at, body }, rest))
         }
         BlockWord::Fork => {
-            let ((_, join), rest) = expect_word::<JoinWord>(tokens)?;
-            let (label, rest) = label(rest)?;
+            let ((_, join), rest) = read!(expect_word::<JoinWord>(tokens));
+            let (label, rest) = read!(label(rest));
             let body = fork_of(name, decls, stmts, join, label);
             Ok((Placed { at, body }, rest))
         }

@@ -37,12 +37,12 @@ pub fn case_item_head<'a>(
     ensures { Heads budget result (reads budget grammar.case_item (toks tokens.now)) }
 {
     if is_next(tokens, Kind::Default) {
-        let (_, rest) = expect(tokens, Kind::Default)?;
+        let (_, rest) = read!(expect(tokens, Kind::Default));
         let (_, rest) = skip(rest, Kind::Colon);
         return Ok((CaseItemHead::Default, rest));
     }
-    let (labels, rest) = list::<Exprs>(alloc, tokens, budget)?;
-    let (_, rest) = expect(rest, Kind::Colon)?;
+    let (labels, rest) = read!(list::<Exprs>(alloc, tokens, budget));
+    let (_, rest) = read!(expect(rest, Kind::Colon));
     Ok((CaseItemHead::Labels(labels), rest))
 }
 
@@ -78,7 +78,7 @@ pub fn case_end<'a>(
 ) -> Read<'a, Placed>
     ensures { Gives (λ x. (placed x.0, toks x.1.now)) result (case_ended at word (expr subject) (map view.case_item items.items, toks tokens.now)) }
 {
-    let (_, rest) = expect(tokens, Kind::Endcase)?;
+    let (_, rest) = read!(expect(tokens, Kind::Endcase));
     let body = case_of(word, subject, items);
     Ok((Placed { at, body }, rest))
 }

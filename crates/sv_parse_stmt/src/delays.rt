@@ -19,10 +19,10 @@ use sv_tree::{Delay, Expr, Kind, Root, Token};
 fn enclosed<'a>(alloc: Global, tokens: &'a [Token], budget: Budget) -> Read<'a, Expr>
     ensures { Reads expr budget grammar.enclosed tokens.now result }
 {
-    let (open, rest) = expect(tokens, Kind::LeftParenthesis)?;
-    let (inner, rest) = value(alloc, rest, budget)?;
-    let (_, rest) = expect(rest, Kind::RightParenthesis)?;
-    Ok((Expr::Group(open.at, Box::new(alloc, inner)?), rest))
+    let (open, rest) = read!(expect(tokens, Kind::LeftParenthesis));
+    let (inner, rest) = read!(value(alloc, rest, budget));
+    let (_, rest) = read!(expect(rest, Kind::RightParenthesis));
+    Ok((Expr::Group(open.at, held!(Box::new(alloc, inner))), rest))
 }
 
 /// `number | id | "(" expr ")"`: the number of cycles after `##` (A.6.11)
@@ -31,11 +31,11 @@ pub fn cycles_amount<'a>(alloc: Global, tokens: &'a [Token], budget: Budget) -> 
     ensures { Reads expr budget grammar.cycles_amount tokens.now result }
 {
     if is_next(tokens, Kind::Number) {
-        let (token, rest) = expect(tokens, Kind::Number)?;
-        return Ok((Expr::Number(token.at, token.text.share()?), rest));
+        let (token, rest) = read!(expect(tokens, Kind::Number));
+        return Ok((Expr::Number(token.at, held!(token.text.share())), rest));
     }
     if is_next(tokens, Kind::Name) {
-        let (name, rest) = name(tokens)?;
+        let (name, rest) = read!(name(tokens));
         return Ok((post_of(Root::Plain(name), Vec::new(alloc)), rest));
     }
     enclosed(alloc, tokens, budget)
@@ -47,8 +47,8 @@ pub fn amount<'a>(alloc: Global, tokens: &'a [Token], budget: Budget) -> Read<'a
     ensures { Reads expr budget grammar.amount tokens.now result }
 {
     if is_next(tokens, Kind::TimeLiteral) {
-        let (token, rest) = expect(tokens, Kind::TimeLiteral)?;
-        return Ok((Expr::Time(token.at, token.text.share()?), rest));
+        let (token, rest) = read!(expect(tokens, Kind::TimeLiteral));
+        return Ok((Expr::Time(token.at, held!(token.text.share())), rest));
     }
     cycles_amount(alloc, tokens, budget)
 }
@@ -73,8 +73,8 @@ impl Part for Delays {
 
     #[tactic(auto, unfolding(sv_tree::specs::StmtGrammar::delay))]
     fn read<'a>(alloc: Global, tokens: &'a [Token], budget: Budget) -> Read<'a, Delay> {
-        let (sign, rest) = expect(tokens, Kind::Hash)?;
-        let (amount, rest) = amount(alloc, rest, budget)?;
+        let (sign, rest) = read!(expect(tokens, Kind::Hash));
+        let (amount, rest) = read!(amount(alloc, rest, budget));
         let delay = Delay {
             at: sign.at,
             amount,

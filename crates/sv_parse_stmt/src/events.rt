@@ -38,7 +38,7 @@ impl Part for Conditions {
     }
 
     fn read<'a>(alloc: Global, tokens: &'a [Token], budget: Budget) -> Read<'a, Expr> {
-        let (_, rest) = expect(tokens, Kind::Iff)?;
+        let (_, rest) = read!(expect(tokens, Kind::Iff));
         value(alloc, rest, budget)
     }
 
@@ -51,8 +51,8 @@ fn event_part<'a>(alloc: Global, tokens: &'a [Token], budget: Budget) -> Read<'a
     ensures { Reads view.event_part budget grammar.event_part tokens.now result }
 {
     let (edge, rest) = word_or(tokens, EdgeWord::Unwritten);
-    let (expr, rest) = value(alloc, rest, budget)?;
-    let (condition, rest) = maybe::<Conditions>(alloc, rest, budget)?;
+    let (expr, rest) = read!(value(alloc, rest, budget));
+    let (condition, rest) = read!(maybe::<Conditions>(alloc, rest, budget));
     let part = EventPart {
         edge,
         expr,
@@ -102,14 +102,14 @@ fn event_list<'a>(alloc: Global, tokens: &'a [Token], budget: Budget) -> Read<'a
     ensures { Reads view.event budget grammar.event_list tokens.now result }
 {
     if is_next(tokens, Kind::Star) {
-        let (_, rest) = expect(tokens, Kind::Star)?;
-        let (_, rest) = expect(rest, Kind::RightParenthesis)?;
+        let (_, rest) = read!(expect(tokens, Kind::Star));
+        let (_, rest) = read!(expect(rest, Kind::RightParenthesis));
         return Ok((Event::Star, rest));
     }
-    let (first, rest) = event_part(alloc, tokens, budget)?;
-    let (mut parts, rest) = items::<NextEventParts>(alloc, rest, budget)?;
-    parts.insert(0, first)?;
-    let (_, rest) = expect(rest, Kind::RightParenthesis)?;
+    let (first, rest) = read!(event_part(alloc, tokens, budget));
+    let (mut parts, rest) = read!(items::<NextEventParts>(alloc, rest, budget));
+    held!(parts.insert(0, first));
+    let (_, rest) = read!(expect(rest, Kind::RightParenthesis));
     Ok((Event::Parts(parts), rest))
 }
 
@@ -119,13 +119,13 @@ pub fn event<'a>(alloc: Global, tokens: &'a [Token], budget: Budget) -> Read<'a,
     ensures { Reads view.event budget grammar.event tokens.now result }
 {
     if is_next(tokens, Kind::Name) {
-        let (name, rest) = name(tokens)?;
+        let (name, rest) = read!(name(tokens));
         return Ok((Event::Named(name), rest));
     }
     if is_next(tokens, Kind::Star) {
-        let (_, rest) = expect(tokens, Kind::Star)?;
+        let (_, rest) = read!(expect(tokens, Kind::Star));
         return Ok((Event::Star, rest));
     }
-    let (_, rest) = expect(tokens, Kind::LeftParenthesis)?;
+    let (_, rest) = read!(expect(tokens, Kind::LeftParenthesis));
     event_list(alloc, rest, budget)
 }

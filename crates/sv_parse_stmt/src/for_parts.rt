@@ -69,12 +69,12 @@ fn for_step_rest<'a>(
     ensures { Gives (λ x. (view.for_step x.0, toks x.1.now)) result (applied at (applied (view.lval target) (reads budget grammar.for_step_rest (toks tokens.now)))) }
 {
     if is_next(tokens, Kind::Equals) {
-        let (value, rest) = Values::read(alloc, tokens, budget)?;
+        let (value, rest) = read!(Values::read(alloc, tokens, budget));
         return Ok((ForStep::Assign(target, value), rest));
     }
     if is_next_word::<BinaryWord>(tokens) {
-        let ((_, word), rest) = expect_word::<BinaryWord>(tokens)?;
-        let (value, rest) = value(alloc, rest, budget)?;
+        let ((_, word), rest) = read!(expect_word::<BinaryWord>(tokens));
+        let (value, rest) = read!(value(alloc, rest, budget));
         let assignment = OperatorAssignment {
             target,
             word,
@@ -82,7 +82,7 @@ fn for_step_rest<'a>(
         };
         return Ok((ForStep::Operator(assignment), rest));
     }
-    let ((_, word), rest) = expect_word::<StepWord>(tokens)?;
+    let ((_, word), rest) = read!(expect_word::<StepWord>(tokens));
     Ok((ForStep::Step { at, target, word }, rest))
 }
 
@@ -92,12 +92,12 @@ pub fn for_step<'a>(alloc: Global, tokens: &'a [Token], budget: Budget) -> Read<
     ensures { Reads view.for_step budget grammar.for_step tokens.now result }
 {
     if begins_lval(tokens) {
-        let (target, rest) = lval(alloc, tokens, budget)?;
+        let (target, rest) = read!(lval(alloc, tokens, budget));
         let at = place_of_target(&target);
         return for_step_rest(alloc, target, at, rest, budget);
     }
-    let ((sign, word), rest) = expect_word::<StepWord>(tokens)?;
-    let (target, rest) = lval(alloc, rest, budget)?;
+    let ((sign, word), rest) = read!(expect_word::<StepWord>(tokens));
+    let (target, rest) = read!(lval(alloc, rest, budget));
     let step = ForStep::Step {
         at: sign.at,
         target,
@@ -119,14 +119,14 @@ fn for_init_rest<'a>(
     ensures { Gives (λ x. (view.for_init x.0, toks x.1.now)) result (applied first (reads budget grammar.for_init_rest (toks tokens.now))) }
 {
     if is_next(tokens, Kind::Name) {
-        let (name, rest) = name(tokens)?;
-        let (value, rest) = Values::read(alloc, rest, budget)?;
+        let (name, rest) = read!(name(tokens));
+        let (value, rest) = read!(Values::read(alloc, rest, budget));
         let of = WrittenType::Named(first);
         return Ok((ForInit::Declare { of, name, value }, rest));
     }
-    let (second, rest) = scope(tokens)?;
-    let (list, rest) = suffixes(alloc, rest, budget)?;
-    let (value, rest) = Values::read(alloc, rest, budget)?;
+    let (second, rest) = read!(scope(tokens));
+    let (list, rest) = read!(suffixes(alloc, rest, budget));
+    let (value, rest) = read!(Values::read(alloc, rest, budget));
     let target = Lval::Post(named_root(first, second), list);
     Ok((ForInit::Assign(target, value), rest))
 }
@@ -137,16 +137,16 @@ pub fn for_init<'a>(alloc: Global, tokens: &'a [Token], budget: Budget) -> Read<
     ensures { Reads view.for_init budget grammar.for_init tokens.now result }
 {
     if is_next(tokens, Kind::Name) {
-        let (name, rest) = name(tokens)?;
+        let (name, rest) = read!(name(tokens));
         return for_init_rest(alloc, name, rest, budget);
     }
     if begins_word_type(tokens) {
-        let (of, rest) = word_type(alloc, tokens, budget)?;
-        let (name, rest) = name(rest)?;
-        let (value, rest) = Values::read(alloc, rest, budget)?;
+        let (of, rest) = read!(word_type(alloc, tokens, budget));
+        let (name, rest) = read!(name(rest));
+        let (value, rest) = read!(Values::read(alloc, rest, budget));
         return Ok((ForInit::Declare { of, name, value }, rest));
     }
-    let (target, rest) = lval(alloc, tokens, budget)?;
-    let (value, rest) = Values::read(alloc, rest, budget)?;
+    let (target, rest) = read!(lval(alloc, tokens, budget));
+    let (value, rest) = read!(Values::read(alloc, rest, budget));
     Ok((ForInit::Assign(target, value), rest))
 }

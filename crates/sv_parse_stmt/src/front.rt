@@ -132,7 +132,7 @@ impl Head {
     ) -> Read<'a, Placed>
         ensures { Gives (λ x. (placed x.0, toks x.1.now)) result (headed budget at self (view.stmt inner, toks tokens.now)) }
     {
-        let inner = Box::new(alloc, inner)?;
+        let inner = held!(Box::new(alloc, inner));
         let body = match self {
             Head::Do => return do_end(alloc, at, inner, tokens, budget),
             Head::For {
@@ -180,9 +180,9 @@ fn do_end<'a>(
 ) -> Read<'a, Placed>
     ensures { Gives (λ x. (placed x.0, toks x.1.now)) result (headed budget at head.Do (view.stmt inner.value, toks tokens.now)) }
 {
-    let (_, rest) = expect(tokens, Kind::While)?;
-    let (condition, rest) = Enclosed::read(alloc, rest, budget)?;
-    let (_, rest) = expect(rest, Kind::Semicolon)?;
+    let (_, rest) = read!(expect(tokens, Kind::While));
+    let (condition, rest) = read!(Enclosed::read(alloc, rest, budget));
+    let (_, rest) = read!(expect(rest, Kind::Semicolon));
     let body = Body::Do(inner, condition);
     Ok((Placed { at, body }, rest))
 }

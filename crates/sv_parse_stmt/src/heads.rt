@@ -21,8 +21,8 @@ use sv_tree::{Body, CaseWord, Kind, Token};
 pub fn if_else<'a>(alloc: Global, tokens: &'a [Token], budget: Budget) -> ReadFront<'a>
     ensures { Begun budget result (reads budget grammar.if_ (toks tokens.now)) }
 {
-    let (word, rest) = expect(tokens, Kind::If)?;
-    let (condition, rest) = Enclosed::read(alloc, rest, budget)?;
+    let (word, rest) = read!(expect(tokens, Kind::If));
+    let (condition, rest) = read!(Enclosed::read(alloc, rest, budget));
     Ok(Front::If {
         at: word.at,
         condition,
@@ -35,8 +35,8 @@ pub fn if_else<'a>(alloc: Global, tokens: &'a [Token], budget: Budget) -> ReadFr
 pub fn case<'a>(alloc: Global, tokens: &'a [Token], budget: Budget) -> ReadFront<'a>
     ensures { Begun budget result (reads budget grammar.case_ (toks tokens.now)) }
 {
-    let ((token, word), rest) = expect_word::<CaseWord>(tokens)?;
-    let (subject, rest) = Enclosed::read(alloc, rest, budget)?;
+    let ((token, word), rest) = read!(expect_word::<CaseWord>(tokens));
+    let (subject, rest) = read!(Enclosed::read(alloc, rest, budget));
     Ok(Front::Case {
         at: token.at,
         word,
@@ -52,8 +52,8 @@ pub fn case<'a>(alloc: Global, tokens: &'a [Token], budget: Budget) -> ReadFront
 pub fn while_loop<'a>(alloc: Global, tokens: &'a [Token], budget: Budget) -> ReadFront<'a>
     ensures { Begun budget result (reads budget grammar.while_ (toks tokens.now)) }
 {
-    let (word, rest) = expect(tokens, Kind::While)?;
-    let (condition, rest) = Enclosed::read(alloc, rest, budget)?;
+    let (word, rest) = read!(expect(tokens, Kind::While));
+    let (condition, rest) = read!(Enclosed::read(alloc, rest, budget));
     Ok(Front::Head {
         at: word.at,
         head: Head::While(condition),
@@ -66,7 +66,7 @@ pub fn while_loop<'a>(alloc: Global, tokens: &'a [Token], budget: Budget) -> Rea
 pub fn do_loop<'a>(tokens: &'a [Token]) -> ReadFront<'a>
     ensures { (d : ℕ) → Begun d result (reads d grammar.do_ (toks tokens.now)) }
 {
-    let (word, rest) = expect(tokens, Kind::Do)?;
+    let (word, rest) = read!(expect(tokens, Kind::Do));
     Ok(Front::Head {
         at: word.at,
         head: Head::Do,
@@ -79,8 +79,8 @@ pub fn do_loop<'a>(tokens: &'a [Token]) -> ReadFront<'a>
 pub fn repeat<'a>(alloc: Global, tokens: &'a [Token], budget: Budget) -> ReadFront<'a>
     ensures { Begun budget result (reads budget grammar.repeat (toks tokens.now)) }
 {
-    let (word, rest) = expect(tokens, Kind::Repeat)?;
-    let (count, rest) = Enclosed::read(alloc, rest, budget)?;
+    let (word, rest) = read!(expect(tokens, Kind::Repeat));
+    let (count, rest) = read!(Enclosed::read(alloc, rest, budget));
     Ok(Front::Head {
         at: word.at,
         head: Head::Repeat(count),
@@ -93,7 +93,7 @@ pub fn repeat<'a>(alloc: Global, tokens: &'a [Token], budget: Budget) -> ReadFro
 pub fn forever<'a>(tokens: &'a [Token]) -> ReadFront<'a>
     ensures { (d : ℕ) → Begun d result (reads d grammar.forever (toks tokens.now)) }
 {
-    let (word, rest) = expect(tokens, Kind::Forever)?;
+    let (word, rest) = read!(expect(tokens, Kind::Forever));
     Ok(Front::Head {
         at: word.at,
         head: Head::Forever,
@@ -106,13 +106,13 @@ pub fn forever<'a>(tokens: &'a [Token]) -> ReadFront<'a>
 pub fn foreach<'a>(tokens: &'a [Token]) -> ReadFront<'a>
     ensures { (d : ℕ) → Begun d result (reads d grammar.foreach (toks tokens.now)) }
 {
-    let (word, rest) = expect(tokens, Kind::Foreach)?;
-    let (_, rest) = expect(rest, Kind::LeftParenthesis)?;
-    let (array, rest) = name(rest)?;
-    let (_, rest) = expect(rest, Kind::LeftBracket)?;
-    let (index, rest) = name(rest)?;
-    let (_, rest) = expect(rest, Kind::RightBracket)?;
-    let (_, rest) = expect(rest, Kind::RightParenthesis)?;
+    let (word, rest) = read!(expect(tokens, Kind::Foreach));
+    let (_, rest) = read!(expect(rest, Kind::LeftParenthesis));
+    let (array, rest) = read!(name(rest));
+    let (_, rest) = read!(expect(rest, Kind::LeftBracket));
+    let (index, rest) = read!(name(rest));
+    let (_, rest) = read!(expect(rest, Kind::RightBracket));
+    let (_, rest) = read!(expect(rest, Kind::RightParenthesis));
     Ok(Front::Head {
         at: word.at,
         head: Head::Foreach { array, index },
@@ -125,16 +125,16 @@ pub fn foreach<'a>(tokens: &'a [Token]) -> ReadFront<'a>
 pub fn for_loop<'a>(alloc: Global, tokens: &'a [Token], budget: Budget) -> ReadFront<'a>
     ensures { Begun budget result (reads budget grammar.for_ (toks tokens.now)) }
 {
-    let (word, rest) = expect(tokens, Kind::For)?;
-    let (_, rest) = expect(rest, Kind::LeftParenthesis)?;
-    let (init, rest) = for_init(alloc, rest, budget)?;
-    let init = Box::new(alloc, init)?;
-    let (_, rest) = expect(rest, Kind::Semicolon)?;
-    let (condition, rest) = value(alloc, rest, budget)?;
-    let (_, rest) = expect(rest, Kind::Semicolon)?;
-    let (step, rest) = for_step(alloc, rest, budget)?;
-    let step = Box::new(alloc, step)?;
-    let (_, rest) = expect(rest, Kind::RightParenthesis)?;
+    let (word, rest) = read!(expect(tokens, Kind::For));
+    let (_, rest) = read!(expect(rest, Kind::LeftParenthesis));
+    let (init, rest) = read!(for_init(alloc, rest, budget));
+    let init = held!(Box::new(alloc, init));
+    let (_, rest) = read!(expect(rest, Kind::Semicolon));
+    let (condition, rest) = read!(value(alloc, rest, budget));
+    let (_, rest) = read!(expect(rest, Kind::Semicolon));
+    let (step, rest) = read!(for_step(alloc, rest, budget));
+    let step = held!(Box::new(alloc, step));
+    let (_, rest) = read!(expect(rest, Kind::RightParenthesis));
     let head = Head::For {
         init,
         condition,
@@ -154,7 +154,7 @@ pub fn for_loop<'a>(alloc: Global, tokens: &'a [Token], budget: Budget) -> ReadF
 pub fn after<'a>(alloc: Global, tokens: &'a [Token], budget: Budget) -> ReadFront<'a>
     ensures { Begun budget result (reads budget grammar.after (toks tokens.now)) }
 {
-    let (delay, rest) = Delays::read(alloc, tokens, budget)?;
+    let (delay, rest) = read!(Delays::read(alloc, tokens, budget));
     Ok(Front::Head {
         at: delay.at,
         head: Head::After(delay),
@@ -167,8 +167,8 @@ pub fn after<'a>(alloc: Global, tokens: &'a [Token], budget: Budget) -> ReadFron
 pub fn on_event<'a>(alloc: Global, tokens: &'a [Token], budget: Budget) -> ReadFront<'a>
     ensures { Begun budget result (reads budget grammar.on_event (toks tokens.now)) }
 {
-    let (sign, rest) = expect(tokens, Kind::At)?;
-    let (event, rest) = event(alloc, rest, budget)?;
+    let (sign, rest) = read!(expect(tokens, Kind::At));
+    let (event, rest) = read!(event(alloc, rest, budget));
     Ok(Front::Head {
         at: sign.at,
         head: Head::On(event),
@@ -181,8 +181,8 @@ pub fn on_event<'a>(alloc: Global, tokens: &'a [Token], budget: Budget) -> ReadF
 pub fn cycles<'a>(alloc: Global, tokens: &'a [Token], budget: Budget) -> ReadFront<'a>
     ensures { Begun budget result (reads budget grammar.cycles (toks tokens.now)) }
 {
-    let (sign, rest) = expect(tokens, Kind::HashHash)?;
-    let (amount, rest) = cycles_amount(alloc, rest, budget)?;
+    let (sign, rest) = read!(expect(tokens, Kind::HashHash));
+    let (amount, rest) = read!(cycles_amount(alloc, rest, budget));
     Ok(Front::Head {
         at: sign.at,
         head: Head::Cycles(amount),
@@ -195,18 +195,18 @@ pub fn cycles<'a>(alloc: Global, tokens: &'a [Token], budget: Budget) -> ReadFro
 pub fn wait<'a>(alloc: Global, tokens: &'a [Token], budget: Budget) -> ReadFront<'a>
     ensures { Begun budget result (reads budget grammar.wait (toks tokens.now)) }
 {
-    let (word, rest) = expect(tokens, Kind::Wait)?;
+    let (word, rest) = read!(expect(tokens, Kind::Wait));
     if is_next(rest, Kind::LeftParenthesis) {
-        budget.deeper(rest)?;
-        let (condition, rest) = Enclosed::read(alloc, rest, budget)?;
+        read!(budget.deeper(rest));
+        let (condition, rest) = read!(Enclosed::read(alloc, rest, budget));
         return Ok(Front::Head {
             at: word.at,
             head: Head::Wait(condition),
             rest,
         });
     }
-    let (_, rest) = expect(rest, Kind::Fork)?;
-    let (_, rest) = expect(rest, Kind::Semicolon)?;
+    let (_, rest) = read!(expect(rest, Kind::Fork));
+    let (_, rest) = read!(expect(rest, Kind::Semicolon));
     let form = Placed {
         at: word.at,
         body: Body::WaitFork,

@@ -31,9 +31,9 @@ pub fn statement<'a>(alloc: Global, tokens: &'a [Token], budget: Budget) -> Read
     let Ok(inner) = budget.deeper(tokens) else {
         return Err(ReadError::Unexpected(tokens));
     };
-    let (label, rest) = stmt_label(tokens)?;
-    let front = body_front(alloc, rest, inner)?;
-    let (Placed { at, body }, rest) = completed(alloc, front, inner)?;
+    let (label, rest) = read!(stmt_label(tokens));
+    let front = read!(body_front(alloc, rest, inner));
+    let (Placed { at, body }, rest) = read!(completed(alloc, front, inner));
     Ok((Stmt { at, label, body }, rest))
 }
 
@@ -45,11 +45,11 @@ fn completed<'a>(alloc: Global, front: Front<'a>, budget: Budget) -> Read<'a, Pl
     match front {
         Front::Whole(form, rest) => Ok((form, rest)),
         Front::Head { at, head, rest } => {
-            let (inner, rest) = statement(alloc, rest, budget)?;
+            let (inner, rest) = read!(statement(alloc, rest, budget));
             head.completed(alloc, at, inner, rest, budget)
         }
         Front::Block(head, rest) => {
-            let (stmts, rest) = statements(alloc, rest, budget)?;
+            let (stmts, rest) = read!(statements(alloc, rest, budget));
             block_end(head, stmts, rest)
         }
         Front::If {
@@ -57,7 +57,7 @@ fn completed<'a>(alloc: Global, front: Front<'a>, budget: Budget) -> Read<'a, Pl
             condition,
             rest,
         } => {
-            let (body, rest) = if_rest(alloc, condition, rest, budget)?;
+            let (body, rest) = read!(if_rest(alloc, condition, rest, budget));
             Ok((Placed { at, body }, rest))
         }
         Front::Case {
@@ -66,7 +66,7 @@ fn completed<'a>(alloc: Global, front: Front<'a>, budget: Budget) -> Read<'a, Pl
             subject,
             rest,
         } => {
-            let (items, rest) = case_items(alloc, rest, budget)?;
+            let (items, rest) = read!(case_items(alloc, rest, budget));
             case_end(at, word, subject, items, rest)
         }
     }
@@ -83,14 +83,14 @@ fn if_rest<'a>(
 ) -> Read<'a, Body>
     ensures { Gives (λ x. (view.body x.0, toks x.1.now)) result (applied (expr condition) (reads budget grammar.if_rest (toks tokens.now))) }
 {
-    let (yes, rest) = statement(alloc, tokens, budget)?;
-    let yes = Box::new(alloc, yes)?;
+    let (yes, rest) = read!(statement(alloc, tokens, budget));
+    let yes = held!(Box::new(alloc, yes));
     if !is_next(rest, Kind::Else) {
         return Ok((Body::If(condition, yes), rest));
     }
-    let (_, rest) = expect(rest, Kind::Else)?;
-    let (no, rest) = statement(alloc, rest, budget)?;
-    let no = Box::new(alloc, no)?;
+    let (_, rest) = read!(expect(rest, Kind::Else));
+    let (no, rest) = read!(statement(alloc, rest, budget));
+    let no = held!(Box::new(alloc, no));
     Ok((Body::IfElse { condition, yes, no }, rest))
 }
 
@@ -103,9 +103,9 @@ fn case_items<'a>(alloc: Global, tokens: &'a [Token], budget: Budget) -> Read<'a
     let mut list = Vec::new(alloc);
     let mut rest = tokens;
     'items: while begins_case_item(rest) {
-        budget.deeper(rest)?;
-        let (item, after) = case_item(alloc, rest, budget)?;
-        list.push(item)?;
+        read!(budget.deeper(rest));
+        let (item, after) = read!(case_item(alloc, rest, budget));
+        held!(list.push(item));
         rest = after;
     }
     Ok((list, rest))
@@ -117,9 +117,9 @@ fn case_item<'a>(alloc: Global, tokens: &'a [Token], budget: Budget) -> Read<'a,
     requires { 0 < budget }
     ensures { Reads view.case_item budget grammar.case_item tokens.now result }
 {
-    let (head, rest) = case_item_head(alloc, tokens, budget)?;
-    let (inner, rest) = statement(alloc, rest, budget)?;
-    let inner = Box::new(alloc, inner)?;
+    let (head, rest) = read!(case_item_head(alloc, tokens, budget));
+    let (inner, rest) = read!(statement(alloc, rest, budget));
+    let inner = held!(Box::new(alloc, inner));
     Ok((case_item_of(head, inner), rest))
 }
 
@@ -132,9 +132,9 @@ fn statements<'a>(alloc: Global, tokens: &'a [Token], budget: Budget) -> Read<'a
     let mut list = Vec::new(alloc);
     let mut rest = tokens;
     'stmts: while begins_stmt(rest) {
-        budget.deeper(rest)?;
-        let (item, after) = statement(alloc, rest, budget)?;
-        list.push(item)?;
+        read!(budget.deeper(rest));
+        let (item, after) = read!(statement(alloc, rest, budget));
+        held!(list.push(item));
         rest = after;
     }
     Ok((list, rest))
@@ -144,7 +144,7 @@ fn statements<'a>(alloc: Global, tokens: &'a [Token], budget: Budget) -> Read<'a
 pub fn items<'a>(alloc: Global, tokens: &'a [Token], budget: Budget) -> Read<'a, BlockItems>
     ensures { Reads items_of budget grammar.block_items tokens.now result }
 {
-    let (decls, rest) = opening(alloc, tokens, budget)?;
-    let (stmts, rest) = statements(alloc, rest, budget)?;
+    let (decls, rest) = read!(opening(alloc, tokens, budget));
+    let (stmts, rest) = read!(statements(alloc, rest, budget));
     Ok((BlockItems { decls, stmts }, rest))
 }

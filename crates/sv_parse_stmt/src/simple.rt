@@ -23,8 +23,8 @@ use sv_tree::{Body, Expr, Kind, Root, StepWord, Token};
 pub fn word_alone<'a>(tokens: &'a [Token], word: Kind, body: Body) -> ReadFront<'a>
     ensures { (d : ℕ) → Begun d result (reads d (grammar.form word (Map (λ t. view.body body) (forms.tok k.Semicolon))) (toks tokens.now)) }
 {
-    let (token, rest) = expect(tokens, word)?;
-    let (_, rest) = expect(rest, Kind::Semicolon)?;
+    let (token, rest) = read!(expect(tokens, word));
+    let (_, rest) = read!(expect(rest, Kind::Semicolon));
     Ok(Front::Whole(Placed { at: token.at, body }, rest))
 }
 
@@ -33,7 +33,7 @@ pub fn word_alone<'a>(tokens: &'a [Token], word: Kind, body: Body) -> ReadFront<
 pub fn null<'a>(tokens: &'a [Token]) -> ReadFront<'a>
     ensures { (d : ℕ) → Begun d result (reads d grammar.null_statement (toks tokens.now)) }
 {
-    let (sign, rest) = expect(tokens, Kind::Semicolon)?;
+    let (sign, rest) = read!(expect(tokens, Kind::Semicolon));
     let form = Placed {
         at: sign.at,
         body: Body::Null,
@@ -46,9 +46,9 @@ pub fn null<'a>(tokens: &'a [Token]) -> ReadFront<'a>
 pub fn disable<'a>(tokens: &'a [Token]) -> ReadFront<'a>
     ensures { (d : ℕ) → Begun d result (reads d grammar.disable (toks tokens.now)) }
 {
-    let (word, rest) = expect(tokens, Kind::Disable)?;
-    let (_, rest) = expect(rest, Kind::Fork)?;
-    let (_, rest) = expect(rest, Kind::Semicolon)?;
+    let (word, rest) = read!(expect(tokens, Kind::Disable));
+    let (_, rest) = read!(expect(rest, Kind::Fork));
+    let (_, rest) = read!(expect(rest, Kind::Semicolon));
     let form = Placed {
         at: word.at,
         body: Body::DisableFork,
@@ -61,9 +61,9 @@ pub fn disable<'a>(tokens: &'a [Token]) -> ReadFront<'a>
 pub fn return_from<'a>(alloc: Global, tokens: &'a [Token], budget: Budget) -> ReadFront<'a>
     ensures { Begun budget result (reads budget grammar.return_ (toks tokens.now)) }
 {
-    let (word, rest) = expect(tokens, Kind::Return)?;
-    let (value, rest) = maybe::<Exprs>(alloc, rest, budget)?;
-    let (_, rest) = expect(rest, Kind::Semicolon)?;
+    let (word, rest) = read!(expect(tokens, Kind::Return));
+    let (value, rest) = read!(maybe::<Exprs>(alloc, rest, budget));
+    let (_, rest) = read!(expect(rest, Kind::Semicolon));
     let form = Placed {
         at: word.at,
         body: Body::Return(value),
@@ -78,9 +78,9 @@ pub fn return_from<'a>(alloc: Global, tokens: &'a [Token], budget: Budget) -> Re
 pub fn step<'a>(alloc: Global, tokens: &'a [Token], budget: Budget) -> ReadFront<'a>
     ensures { Begun budget result (reads budget grammar.step_statement (toks tokens.now)) }
 {
-    let ((sign, word), rest) = expect_word::<StepWord>(tokens)?;
-    let (target, rest) = lval(alloc, rest, budget)?;
-    let (_, rest) = expect(rest, Kind::Semicolon)?;
+    let ((sign, word), rest) = read!(expect_word::<StepWord>(tokens));
+    let (target, rest) = read!(lval(alloc, rest, budget));
+    let (_, rest) = read!(expect(rest, Kind::Semicolon));
     let form = Placed {
         at: sign.at,
         body: Body::Step(target, word),
@@ -93,9 +93,9 @@ pub fn step<'a>(alloc: Global, tokens: &'a [Token], budget: Budget) -> ReadFront
 pub fn trigger<'a>(alloc: Global, tokens: &'a [Token], budget: Budget) -> ReadFront<'a>
     ensures { Begun budget result (reads budget grammar.trigger (toks tokens.now)) }
 {
-    let (sign, rest) = expect(tokens, Kind::Arrow)?;
-    let (target, rest) = lval(alloc, rest, budget)?;
-    let (_, rest) = expect(rest, Kind::Semicolon)?;
+    let (sign, rest) = read!(expect(tokens, Kind::Arrow));
+    let (target, rest) = read!(lval(alloc, rest, budget));
+    let (_, rest) = read!(expect(rest, Kind::Semicolon));
     let form = Placed {
         at: sign.at,
         body: Body::Trigger(target),
@@ -110,12 +110,12 @@ pub fn trigger<'a>(alloc: Global, tokens: &'a [Token], budget: Budget) -> ReadFr
 pub fn ignore<'a>(alloc: Global, tokens: &'a [Token], budget: Budget) -> ReadFront<'a>
     ensures { Begun budget result (reads budget grammar.ignore (toks tokens.now)) }
 {
-    let (word, rest) = expect(tokens, Kind::Void)?;
-    let (_, rest) = expect(rest, Kind::Apostrophe)?;
-    let (_, rest) = expect(rest, Kind::LeftParenthesis)?;
-    let (call, rest) = call(alloc, rest, budget)?;
-    let (_, rest) = expect(rest, Kind::RightParenthesis)?;
-    let (_, rest) = expect(rest, Kind::Semicolon)?;
+    let (word, rest) = read!(expect(tokens, Kind::Void));
+    let (_, rest) = read!(expect(rest, Kind::Apostrophe));
+    let (_, rest) = read!(expect(rest, Kind::LeftParenthesis));
+    let (call, rest) = read!(call(alloc, rest, budget));
+    let (_, rest) = read!(expect(rest, Kind::RightParenthesis));
+    let (_, rest) = read!(expect(rest, Kind::Semicolon));
     let form = Placed {
         at: word.at,
         body: Body::Ignore(word.at, call),
@@ -128,10 +128,10 @@ pub fn ignore<'a>(alloc: Global, tokens: &'a [Token], budget: Budget) -> ReadFro
 pub fn system_statement<'a>(alloc: Global, tokens: &'a [Token], budget: Budget) -> ReadFront<'a>
     ensures { Begun budget result (reads budget grammar.system_statement (toks tokens.now)) }
 {
-    let (word, rest) = expect(tokens, Kind::SystemName)?;
-    let name = name_of(word)?;
-    let (actuals, rest) = maybe_actuals(alloc, rest, budget)?;
-    let (_, rest) = expect(rest, Kind::Semicolon)?;
+    let (word, rest) = read!(expect(tokens, Kind::SystemName));
+    let name = held!(name_of(word));
+    let (actuals, rest) = read!(maybe_actuals(alloc, rest, budget));
+    let (_, rest) = read!(expect(rest, Kind::Semicolon));
     let form = Placed {
         at: word.at,
         body: Body::Call(Expr::System(name, actuals)),
@@ -144,9 +144,9 @@ pub fn system_statement<'a>(alloc: Global, tokens: &'a [Token], budget: Budget) 
 pub fn this_statement<'a>(alloc: Global, tokens: &'a [Token], budget: Budget) -> ReadFront<'a>
     ensures { Begun budget result (reads budget grammar.this_statement (toks tokens.now)) }
 {
-    let (word, rest) = expect(tokens, Kind::This)?;
-    let (list, rest) = suffixes(alloc, rest, budget)?;
-    let (body, rest) = post_end(alloc, Root::This(word.at), list, rest, budget)?;
+    let (word, rest) = read!(expect(tokens, Kind::This));
+    let (list, rest) = read!(suffixes(alloc, rest, budget));
+    let (body, rest) = read!(post_end(alloc, Root::This(word.at), list, rest, budget));
     Ok(Front::Whole(Placed { at: word.at, body }, rest))
 }
 
@@ -155,20 +155,20 @@ pub fn this_statement<'a>(alloc: Global, tokens: &'a [Token], budget: Budget) ->
 pub fn super_statement<'a>(alloc: Global, tokens: &'a [Token], budget: Budget) -> ReadFront<'a>
     ensures { Begun budget result (reads budget grammar.super_statement (toks tokens.now)) }
 {
-    let (word, rest) = expect(tokens, Kind::Super)?;
-    let (_, rest) = expect(rest, Kind::Dot)?;
+    let (word, rest) = read!(expect(tokens, Kind::Super));
+    let (_, rest) = read!(expect(rest, Kind::Dot));
     let at = word.at;
     if is_next(rest, Kind::New) {
-        let (new, rest) = expect(rest, Kind::New)?;
-        let (actuals, rest) = maybe_actuals(alloc, rest, budget)?;
-        let (_, rest) = expect(rest, Kind::Semicolon)?;
+        let (new, rest) = read!(expect(rest, Kind::New));
+        let (actuals, rest) = read!(maybe_actuals(alloc, rest, budget));
+        let (_, rest) = read!(expect(rest, Kind::Semicolon));
         let new = new.at;
         let body = Body::Call(Expr::SuperNew { at, new, actuals });
         return Ok(Front::Whole(Placed { at, body }, rest));
     }
-    let (name, rest) = name(rest)?;
-    let (list, rest) = suffixes(alloc, rest, budget)?;
-    let (body, rest) = post_end(alloc, Root::Super(at, name), list, rest, budget)?;
+    let (name, rest) = read!(name(rest));
+    let (list, rest) = read!(suffixes(alloc, rest, budget));
+    let (body, rest) = read!(post_end(alloc, Root::Super(at, name), list, rest, budget));
     Ok(Front::Whole(Placed { at, body }, rest))
 }
 
@@ -178,8 +178,8 @@ pub fn targets_statement<'a>(alloc: Global, tokens: &'a [Token], budget: Budget)
     requires { 0 < budget }
     ensures { Begun budget result (reads budget grammar.targets_statement (toks tokens.now)) }
 {
-    let (target, rest) = targets(alloc, tokens, budget)?;
+    let (target, rest) = read!(targets(alloc, tokens, budget));
     let at = place_of_target(&target);
-    let (body, rest) = assignment(alloc, target, rest, budget)?;
+    let (body, rest) = read!(assignment(alloc, target, rest, budget));
     Ok(Front::Whole(Placed { at, body }, rest))
 }

@@ -70,7 +70,7 @@ fn unnamed_front<'a>(alloc: Global, tokens: &'a [Token], budget: Budget) -> Read
     ensures { Begun budget result (reads budget grammar.unnamed (toks tokens.now)) }
 {
     if begins_holder(tokens) {
-        budget.deeper(tokens)?;
+        read!(budget.deeper(tokens));
         return holder(alloc, tokens, budget);
     }
     if is_next(tokens, Kind::Semicolon) {
@@ -124,13 +124,13 @@ pub fn body_front<'a>(alloc: Global, tokens: &'a [Token], budget: Budget) -> Rea
     ensures { Fronts budget result (reads budget grammar.body (toks tokens.now)) }
 {
     if is_next(tokens, Kind::Name) {
-        let (first, rest) = expect(tokens, Kind::Name)?;
-        let name = name_of(first)?;
-        let (body, rest) = named_rest(alloc, name, rest, budget)?;
+        let (first, rest) = read!(expect(tokens, Kind::Name));
+        let name = held!(name_of(first));
+        let (body, rest) = read!(named_rest(alloc, name, rest, budget));
         let at = first.at;
         return Ok(Front::Whole(Placed { at, body }, rest));
     }
-    let front = unnamed_front(alloc, tokens, budget)?;
+    let front = read!(unnamed_front(alloc, tokens, budget));
     Ok(front)
 }
 
@@ -142,7 +142,7 @@ pub fn stmt_label<'a>(tokens: &'a [Token]) -> Read<'a, Option<Name>>
     if !are_next(tokens, Kind::Name, Kind::Colon) {
         return Ok((None, tokens));
     }
-    let (first, rest) = expect(tokens, Kind::Name)?;
-    let (_, rest) = expect(rest, Kind::Colon)?;
-    Ok((Some(name_of(first)?), rest))
+    let (first, rest) = read!(expect(tokens, Kind::Name));
+    let (_, rest) = read!(expect(rest, Kind::Colon));
+    Ok((Some(held!(name_of(first))), rest))
 }

@@ -54,12 +54,12 @@ impl Part for ClassDecls {
     #[tactic(auto, using(crate::proofs::ClassLaws::decl_automatic, crate::proofs::ClassLaws::decl_var, crate::proofs::ClassLaws::decl_typed))]
     fn read<'a>(alloc: Global, tokens: &'a [Token], budget: Budget) -> Read<'a, Decl> {
         if is_next(tokens, Kind::Automatic) {
-            let (_, rest) = expect(tokens, Kind::Automatic)?;
+            let (_, rest) = read!(expect(tokens, Kind::Automatic));
             let (_, rest) = skip(rest, Kind::Var);
             return typed(alloc, Life::Automatic, rest, budget);
         }
         if is_next(tokens, Kind::Var) {
-            let (_, rest) = expect(tokens, Kind::Var)?;
+            let (_, rest) = read!(expect(tokens, Kind::Var));
             return typed(alloc, Life::Unwritten, rest, budget);
         }
         typed(alloc, Life::Unwritten, tokens, budget)
@@ -133,16 +133,16 @@ fn member<'a>(
 {
     let qualifiers = qualifiers_of(words);
     if begins::<ClassDecls>(tokens) {
-        let (decl, rest) = ClassDecls::read(alloc, tokens, budget)?;
-        let property = Box::new(alloc, Property { qualifiers, decl })?;
+        let (decl, rest) = read!(ClassDecls::read(alloc, tokens, budget));
+        let property = held!(Box::new(alloc, Property { qualifiers, decl }));
         return Ok((ClassItem::Property(property), rest));
     }
-    let (routine, rest) = routine(alloc, tokens, budget)?;
+    let (routine, rest) = read!(routine(alloc, tokens, budget));
     let method = Method {
         qualifiers,
         routine,
     };
-    Ok((ClassItem::Method(Box::new(alloc, method)?), rest))
+    Ok((ClassItem::Method(held!(Box::new(alloc, method))), rest))
 }
 
 /// `{"local" | "protected" | "static" | "virtual"} (decl | routine)`
@@ -158,12 +158,12 @@ fn qualified<'a>(alloc: Global, tokens: &'a [Token], budget: Budget) -> Read<'a,
 fn pure_method<'a>(alloc: Global, tokens: &'a [Token], budget: Budget) -> Read<'a, ClassItem>
     ensures { Reads view.class_item budget grammar.pure_method tokens.now result }
 {
-    let (word, rest) = expect(tokens, Kind::Pure)?;
-    let (_, rest) = expect(rest, Kind::Virtual)?;
-    let (head, rest) = head(alloc, rest, budget)?;
-    let (_, rest) = expect(rest, Kind::Semicolon)?;
+    let (word, rest) = read!(expect(tokens, Kind::Pure));
+    let (_, rest) = read!(expect(rest, Kind::Virtual));
+    let (head, rest) = read!(head(alloc, rest, budget));
+    let (_, rest) = read!(expect(rest, Kind::Semicolon));
     let method = PureMethod { at: word.at, head };
-    Ok((ClassItem::Pure(Box::new(alloc, method)?), rest))
+    Ok((ClassItem::Pure(held!(Box::new(alloc, method))), rest))
 }
 
 /// `citem`
@@ -197,7 +197,7 @@ impl Part for ClassItems {
             return class_typedef(alloc, tokens, budget);
         }
         if is_next(tokens, Kind::Semicolon) {
-            let (_, rest) = expect(tokens, Kind::Semicolon)?;
+            let (_, rest) = read!(expect(tokens, Kind::Semicolon));
             return Ok((ClassItem::Null, rest));
         }
         qualified(alloc, tokens, budget)
@@ -219,8 +219,8 @@ fn base(tokens: &[Token]) -> Read<Option<Name>>
     if !is_next(tokens, Kind::Extends) {
         return Ok((None, tokens));
     }
-    let (_, rest) = expect(tokens, Kind::Extends)?;
-    let (name, rest) = name(rest)?;
+    let (_, rest) = read!(expect(tokens, Kind::Extends));
+    let (name, rest) = read!(name(rest));
     Ok((Some(name), rest))
 }
 
@@ -235,12 +235,12 @@ fn class_rest<'a>(
 ) -> Read<'a, Class>
     ensures { ReadsAfterTwo view.class is_virtual (tok word.now) budget grammar.class_rest tokens.now result }
 {
-    let (name, rest) = name(tokens)?;
-    let (base, rest) = base(rest)?;
-    let (_, rest) = expect(rest, Kind::Semicolon)?;
-    let (items, rest) = items::<ClassItems>(alloc, rest, budget)?;
-    let (_, rest) = expect(rest, Kind::Endclass)?;
-    let (label, rest) = label(rest)?;
+    let (name, rest) = read!(name(tokens));
+    let (base, rest) = read!(base(rest));
+    let (_, rest) = read!(expect(rest, Kind::Semicolon));
+    let (items, rest) = read!(items::<ClassItems>(alloc, rest, budget));
+    let (_, rest) = read!(expect(rest, Kind::Endclass));
+    let (label, rest) = read!(label(rest));
     let class = Class {
         at: word.at,
         is_virtual,
@@ -258,10 +258,10 @@ pub fn class<'a>(alloc: Global, tokens: &'a [Token], budget: Budget) -> Read<'a,
     ensures { Reads view.class budget grammar.class tokens.now result }
 {
     if is_next(tokens, Kind::Virtual) {
-        let (word, rest) = expect(tokens, Kind::Virtual)?;
-        let (_, rest) = expect(rest, Kind::Class)?;
+        let (word, rest) = read!(expect(tokens, Kind::Virtual));
+        let (_, rest) = read!(expect(rest, Kind::Class));
         return class_rest(alloc, true, word, rest, budget);
     }
-    let (word, rest) = expect(tokens, Kind::Class)?;
+    let (word, rest) = read!(expect(tokens, Kind::Class));
     class_rest(alloc, false, word, rest, budget)
 }

@@ -60,12 +60,12 @@ impl Part for Skews {
 
     #[tactic(auto, using(crate::proofs::ClockingLaws::skew_step, crate::proofs::ClockingLaws::skew_amount), unfolding(sv_tree::specs::UnitGrammar::skew))]
     fn read<'a>(alloc: Global, tokens: &'a [Token], budget: Budget) -> Read<'a, Skew> {
-        let (sign, rest) = expect(tokens, Kind::Hash)?;
+        let (sign, rest) = read!(expect(tokens, Kind::Hash));
         if begins_amount(rest) {
-            let (amount, rest) = amount(alloc, rest, budget)?;
+            let (amount, rest) = read!(amount(alloc, rest, budget));
             return Ok((Skew::Amount(sign.at, amount), rest));
         }
-        let (_, rest) = expect(rest, Kind::OneStep)?;
+        let (_, rest) = read!(expect(rest, Kind::OneStep));
         Ok((Skew::OneStep(sign.at), rest))
     }
 
@@ -104,8 +104,8 @@ impl Part for DefaultSkews {
 
     #[tactic(auto, unfolding(sv_tree::specs::UnitGrammar::default_skew))]
     fn read<'a>(alloc: Global, tokens: &'a [Token], budget: Budget) -> Read<'a, Sided> {
-        let ((_, direction), rest) = expect_word::<PortDirection>(tokens)?;
-        let (skew, rest) = Skews::read(alloc, rest, budget)?;
+        let ((_, direction), rest) = read!(expect_word::<PortDirection>(tokens));
+        let (skew, rest) = read!(Skews::read(alloc, rest, budget));
         let sided = Sided {
             direction: direction_of(direction),
             skew: Some(skew),
@@ -140,7 +140,7 @@ impl Part for Outputs {
 
     #[tactic(auto, unfolding(sv_tree::specs::UnitGrammar::output_side))]
     fn read<'a>(alloc: Global, tokens: &'a [Token], budget: Budget) -> Read<'a, Option<Skew>> {
-        let (_, rest) = expect(tokens, Kind::Output)?;
+        let (_, rest) = read!(expect(tokens, Kind::Output));
         maybe::<Skews>(alloc, rest, budget)
     }
 
@@ -161,15 +161,15 @@ fn one_side(alloc: Global, direction: Direction, skew: Option<Skew>) -> Result<V
 fn input_side<'a>(alloc: Global, tokens: &'a [Token], budget: Budget) -> Read<'a, Vec<Sided>>
     ensures { Reads (seen view.sided) budget grammar.input_side tokens.now result }
 {
-    let (_, rest) = expect(tokens, Kind::Input)?;
-    let (input, rest) = maybe::<Skews>(alloc, rest, budget)?;
-    let (output, rest) = maybe::<Outputs>(alloc, rest, budget)?;
-    let mut sides = one_side(alloc, Direction::Input, input)?;
+    let (_, rest) = read!(expect(tokens, Kind::Input));
+    let (input, rest) = read!(maybe::<Skews>(alloc, rest, budget));
+    let (output, rest) = read!(maybe::<Outputs>(alloc, rest, budget));
+    let mut sides = held!(one_side(alloc, Direction::Input, input));
     match output {
         None => Ok((sides, rest)),
         Some(skew) => {
             let direction = Direction::Output;
-            sides.push(Sided { direction, skew })?;
+            held!(sides.push(Sided { direction, skew }));
             Ok((sides, rest))
         }
     }
@@ -184,11 +184,11 @@ fn sides<'a>(alloc: Global, tokens: &'a [Token], budget: Budget) -> Read<'a, Vec
         return input_side(alloc, tokens, budget);
     }
     if begins::<Outputs>(tokens) {
-        let (skew, rest) = Outputs::read(alloc, tokens, budget)?;
-        return Ok((one_side(alloc, Direction::Output, skew)?, rest));
+        let (skew, rest) = read!(Outputs::read(alloc, tokens, budget));
+        return Ok((held!(one_side(alloc, Direction::Output, skew)), rest));
     }
-    let (_, rest) = expect(tokens, Kind::Inout)?;
-    Ok((one_side(alloc, Direction::Inout, None)?, rest))
+    let (_, rest) = read!(expect(tokens, Kind::Inout));
+    Ok((held!(one_side(alloc, Direction::Inout, None)), rest))
 }
 
 // ---- items
@@ -197,9 +197,9 @@ fn sides<'a>(alloc: Global, tokens: &'a [Token], budget: Budget) -> Read<'a, Vec
 fn signals<'a>(alloc: Global, tokens: &'a [Token], budget: Budget) -> Read<'a, ClockingItem>
     ensures { Reads view.clocking_item budget (pair units.Signals grammar.sides (list forms.name ◂ k.Semicolon)) tokens.now result }
 {
-    let (sides, rest) = sides(alloc, tokens, budget)?;
-    let (names, rest) = list::<Names>(alloc, rest, budget)?;
-    let (_, rest) = expect(rest, Kind::Semicolon)?;
+    let (sides, rest) = read!(sides(alloc, tokens, budget));
+    let (names, rest) = read!(list::<Names>(alloc, rest, budget));
+    let (_, rest) = read!(expect(rest, Kind::Semicolon));
     Ok((ClockingItem::Signals(sides, names), rest))
 }
 
@@ -225,9 +225,9 @@ impl Part for ClockingItems {
     #[tactic(auto, using(crate::proofs::ClockingLaws::item_default, crate::proofs::ClockingLaws::item_signals), unfolding(sv_tree::specs::UnitGrammar::default_skews))]
     fn read<'a>(alloc: Global, tokens: &'a [Token], budget: Budget) -> Read<'a, ClockingItem> {
         if is_next(tokens, Kind::Default) {
-            let (_, rest) = expect(tokens, Kind::Default)?;
-            let (skews, rest) = items::<DefaultSkews>(alloc, rest, budget)?;
-            let (_, rest) = expect(rest, Kind::Semicolon)?;
+            let (_, rest) = read!(expect(tokens, Kind::Default));
+            let (skews, rest) = read!(items::<DefaultSkews>(alloc, rest, budget));
+            let (_, rest) = read!(expect(rest, Kind::Semicolon));
             return Ok((ClockingItem::Default(skews), rest));
         }
         signals(alloc, tokens, budget)
@@ -254,15 +254,15 @@ fn block<'a>(
 ) -> Read<'a, ClockingBlock>
     ensures { ReadsAfterTwo view.clocking block default budget grammar.clocking_rest tokens.now result }
 {
-    let (_, rest) = expect(tokens, Kind::At)?;
-    let (_, rest) = expect(rest, Kind::LeftParenthesis)?;
+    let (_, rest) = read!(expect(tokens, Kind::At));
+    let (_, rest) = read!(expect(rest, Kind::LeftParenthesis));
     let (edge, rest) = word_or::<EdgeWord>(rest, EdgeWord::Unwritten);
-    let (event, rest) = name(rest)?;
-    let (_, rest) = expect(rest, Kind::RightParenthesis)?;
-    let (_, rest) = expect(rest, Kind::Semicolon)?;
-    let (items, rest) = items::<ClockingItems>(alloc, rest, budget)?;
-    let (_, rest) = expect(rest, Kind::Endclocking)?;
-    let (label, rest) = label(rest)?;
+    let (event, rest) = read!(name(rest));
+    let (_, rest) = read!(expect(rest, Kind::RightParenthesis));
+    let (_, rest) = read!(expect(rest, Kind::Semicolon));
+    let (items, rest) = read!(items::<ClockingItems>(alloc, rest, budget));
+    let (_, rest) = read!(expect(rest, Kind::Endclocking));
+    let (label, rest) = read!(label(rest));
     let block = ClockingBlock {
         default,
         name: block,
@@ -279,10 +279,10 @@ fn block<'a>(
 fn plain_clocking<'a>(alloc: Global, tokens: &'a [Token], budget: Budget) -> Read<'a, Item>
     ensures { Reads view.item budget grammar.plain_clocking tokens.now result }
 {
-    let (_, rest) = expect(tokens, Kind::Clocking)?;
-    let (name, rest) = name(rest)?;
-    let (block, rest) = block(alloc, None, name, rest, budget)?;
-    Ok((Item::Clocking(Box::new(alloc, block)?), rest))
+    let (_, rest) = read!(expect(tokens, Kind::Clocking));
+    let (name, rest) = read!(name(rest));
+    let (block, rest) = read!(block(alloc, None, name, rest, budget));
+    Ok((Item::Clocking(held!(Box::new(alloc, block))), rest))
 }
 
 /// `"default" "clocking" id (";" | "@" ..)`
@@ -290,15 +290,15 @@ fn plain_clocking<'a>(alloc: Global, tokens: &'a [Token], budget: Budget) -> Rea
 fn default_clocking<'a>(alloc: Global, tokens: &'a [Token], budget: Budget) -> Read<'a, Item>
     ensures { Reads view.item budget grammar.default_clocking tokens.now result }
 {
-    let (word, rest) = expect(tokens, Kind::Default)?;
-    let (_, rest) = expect(rest, Kind::Clocking)?;
-    let (name, rest) = name(rest)?;
+    let (word, rest) = read!(expect(tokens, Kind::Default));
+    let (_, rest) = read!(expect(rest, Kind::Clocking));
+    let (name, rest) = read!(name(rest));
     if is_next(rest, Kind::Semicolon) {
-        let (_, rest) = expect(rest, Kind::Semicolon)?;
+        let (_, rest) = read!(expect(rest, Kind::Semicolon));
         return Ok((Item::DefaultClocking(word.at, name), rest));
     }
-    let (block, rest) = block(alloc, Some(word.at), name, rest, budget)?;
-    Ok((Item::Clocking(Box::new(alloc, block)?), rest))
+    let (block, rest) = read!(block(alloc, Some(word.at), name, rest, budget));
+    Ok((Item::Clocking(held!(Box::new(alloc, block))), rest))
 }
 
 /// `clocking`

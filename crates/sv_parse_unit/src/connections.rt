@@ -18,9 +18,9 @@ use sv_tree::{Connection, Expr, Kind, Token};
 fn given<'a>(alloc: Global, tokens: &'a [Token], budget: Budget) -> Read<'a, Option<Expr>>
     ensures { Reads (option_map expr) budget grammar.given tokens.now result }
 {
-    let (_, rest) = expect(tokens, Kind::LeftParenthesis)?;
-    let (value, rest) = maybe::<Exprs>(alloc, rest, budget)?;
-    let (_, rest) = expect(rest, Kind::RightParenthesis)?;
+    let (_, rest) = read!(expect(tokens, Kind::LeftParenthesis));
+    let (value, rest) = read!(maybe::<Exprs>(alloc, rest, budget));
+    let (_, rest) = read!(expect(rest, Kind::RightParenthesis));
     Ok((value, rest))
 }
 
@@ -29,13 +29,13 @@ fn given<'a>(alloc: Global, tokens: &'a [Token], budget: Budget) -> Read<'a, Opt
 fn dotted<'a>(alloc: Global, tokens: &'a [Token], budget: Budget) -> Read<'a, Connection>
     ensures { Reads view.connection budget grammar.dotted tokens.now result }
 {
-    let (dot, rest) = expect(tokens, Kind::Dot)?;
+    let (dot, rest) = read!(expect(tokens, Kind::Dot));
     let at = dot.at;
-    let (name, rest) = name(rest)?;
+    let (name, rest) = read!(name(rest));
     if !is_next(rest, Kind::LeftParenthesis) {
         return Ok((Connection::Named(at, name), rest));
     }
-    let (value, rest) = given(alloc, rest, budget)?;
+    let (value, rest) = read!(given(alloc, rest, budget));
     Ok((Connection::Given { at, name, value }, rest))
 }
 
@@ -64,10 +64,10 @@ impl Part for Connections {
             return dotted(alloc, tokens, budget);
         }
         if is_next(tokens, Kind::DotStar) {
-            let (sign, rest) = expect(tokens, Kind::DotStar)?;
+            let (sign, rest) = read!(expect(tokens, Kind::DotStar));
             return Ok((Connection::All(sign.at), rest));
         }
-        let (value, rest) = value(alloc, tokens, budget)?;
+        let (value, rest) = read!(value(alloc, tokens, budget));
         Ok((Connection::Value(value), rest))
     }
 

@@ -36,20 +36,20 @@ impl Part for Descriptions {
     #[tactic(auto, using(crate::proofs::ElementLaws::a_module, crate::proofs::ElementLaws::a_program, crate::proofs::ElementLaws::an_item, crate::proofs::ElementLaws::nothing))]
     fn read<'a>(alloc: Global, tokens: &'a [Token], budget: Budget) -> Read<'a, Description> {
         if is_next(tokens, Kind::Module) {
-            let (word, rest) = expect(tokens, Kind::Module)?;
-            let (module, rest) = element::<Modules>(alloc, word, rest, budget)?;
-            return Ok((Description::Module(Box::new(alloc, module)?), rest));
+            let (word, rest) = read!(expect(tokens, Kind::Module));
+            let (module, rest) = read!(element::<Modules>(alloc, word, rest, budget));
+            return Ok((Description::Module(held!(Box::new(alloc, module))), rest));
         }
         if is_next(tokens, Kind::Program) {
-            let (word, rest) = expect(tokens, Kind::Program)?;
-            let (program, rest) = element::<Programs>(alloc, word, rest, budget)?;
-            return Ok((Description::Program(Box::new(alloc, program)?), rest));
+            let (word, rest) = read!(expect(tokens, Kind::Program));
+            let (program, rest) = read!(element::<Programs>(alloc, word, rest, budget));
+            return Ok((Description::Program(held!(Box::new(alloc, program))), rest));
         }
         if begins::<NamedItems>(tokens) {
-            let (item, rest) = NamedItems::read(alloc, tokens, budget)?;
+            let (item, rest) = read!(NamedItems::read(alloc, tokens, budget));
             return Ok((Description::Item(item), rest));
         }
-        let (_, rest) = expect(tokens, Kind::Semicolon)?;
+        let (_, rest) = read!(expect(tokens, Kind::Semicolon));
         Ok((Description::Item(Item::Null), rest))
     }
 
@@ -65,7 +65,7 @@ impl Repeated for Descriptions {
 pub fn file<'a>(alloc: Global, tokens: &'a [Token], budget: Budget) -> Read<'a, Vec<Description>>
     ensures { Reads (seen view.description) budget grammar.file tokens.now result }
 {
-    let (list, rest) = items::<Descriptions>(alloc, tokens, budget)?;
-    let (_, rest) = expect(rest, Kind::EndOfText)?;
+    let (list, rest) = read!(items::<Descriptions>(alloc, tokens, budget));
+    let (_, rest) = read!(expect(rest, Kind::EndOfText));
     Ok((list, rest))
 }

@@ -32,9 +32,9 @@ pub struct ElementHead {
 fn element_head<'a>(alloc: Global, tokens: &'a [Token], budget: Budget) -> Read<'a, ElementHead>
     ensures { Reads element_head budget grammar.element_head tokens.now result }
 {
-    let (params, rest) = maybe_params(alloc, tokens, budget)?;
-    let (ports, rest) = maybe_ports(alloc, rest, budget)?;
-    let (_, rest) = expect(rest, Kind::Semicolon)?;
+    let (params, rest) = read!(maybe_params(alloc, tokens, budget));
+    let (ports, rest) = read!(maybe_ports(alloc, rest, budget));
+    let (_, rest) = read!(expect(rest, Kind::Semicolon));
     Ok((ElementHead { params, ports }, rest))
 }
 
@@ -99,11 +99,11 @@ pub fn element<'a, K: ElementKind>(
     ensures { ReadsAfter view.design_element (tok word.now) budget (element_rest K.item K.end) tokens.now result }
 {
     let (life, rest) = word_or::<Life>(tokens, Life::Unwritten);
-    let (name, rest) = name(rest)?;
-    let (ElementHead { params, ports }, rest) = element_head(alloc, rest, budget)?;
-    let (items, rest) = K::items(alloc, rest, budget)?;
-    let (_, rest) = expect(rest, K::end())?;
-    let (label, rest) = label(rest)?;
+    let (name, rest) = read!(name(rest));
+    let (ElementHead { params, ports }, rest) = read!(element_head(alloc, rest, budget));
+    let (items, rest) = read!(K::items(alloc, rest, budget));
+    let (_, rest) = read!(expect(rest, K::end()));
+    let (label, rest) = read!(label(rest));
     let element = DesignElement {
         at: word.at,
         life,

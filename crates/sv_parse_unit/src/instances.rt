@@ -37,8 +37,8 @@ impl Part for InstanceParts {
 
     #[tactic(auto, unfolding(sv_tree::specs::UnitGrammar::instance, sv_tree::specs::UnitGrammar::connections))]
     fn read<'a>(alloc: Global, tokens: &'a [Token], budget: Budget) -> Read<'a, Instance> {
-        let (name, rest) = name(tokens)?;
-        let (connections, rest) = enclosed_list_or_none::<Connections>(alloc, rest, budget)?;
+        let (name, rest) = read!(name(tokens));
+        let (connections, rest) = read!(enclosed_list_or_none::<Connections>(alloc, rest, budget));
         Ok((Instance { name, connections }, rest))
     }
 
@@ -59,12 +59,12 @@ fn valued_instances<'a>(
 ) -> Read<'a, Item>
     ensures { ReadsAfter view.item of budget grammar.valued_instances tokens.now result }
 {
-    let (_, rest) = expect(tokens, Kind::Hash)?;
-    let (params, rest) = enclosed_list::<Connections>(alloc, rest, budget)?;
-    let (list, rest) = list::<InstanceParts>(alloc, rest, budget)?;
-    let (_, rest) = expect(rest, Kind::Semicolon)?;
+    let (_, rest) = read!(expect(tokens, Kind::Hash));
+    let (params, rest) = read!(enclosed_list::<Connections>(alloc, rest, budget));
+    let (list, rest) = read!(list::<InstanceParts>(alloc, rest, budget));
+    let (_, rest) = read!(expect(rest, Kind::Semicolon));
     let instances = Instances { of, params, list };
-    Ok((Item::Instances(Box::new(alloc, instances)?), rest))
+    Ok((Item::Instances(held!(Box::new(alloc, instances))), rest))
 }
 
 /// After two names: the connections of an instance, and further instances.
@@ -78,16 +78,16 @@ fn instances_rest<'a>(
 ) -> Read<'a, Item>
     ensures { ReadsAfterTwo view.item of first budget grammar.instances_rest tokens.now result }
 {
-    let (connections, rest) = enclosed_list_or_none::<Connections>(alloc, tokens, budget)?;
+    let (connections, rest) = read!(enclosed_list_or_none::<Connections>(alloc, tokens, budget));
     let instance = Instance {
         name: first,
         connections,
     };
-    let (list, rest) = list_after::<InstanceParts>(alloc, instance, rest, budget)?;
-    let (_, rest) = expect(rest, Kind::Semicolon)?;
+    let (list, rest) = read!(list_after::<InstanceParts>(alloc, instance, rest, budget));
+    let (_, rest) = read!(expect(rest, Kind::Semicolon));
     let params = Vec::new(alloc);
     let instances = Instances { of, params, list };
-    Ok((Item::Instances(Box::new(alloc, instances)?), rest))
+    Ok((Item::Instances(held!(Box::new(alloc, instances))), rest))
 }
 
 /// After two names: the rest of a declaration.
@@ -101,14 +101,14 @@ fn decl_rest<'a>(
 ) -> Read<'a, Item>
     ensures { ReadsAfterTwo view.item of first budget grammar.decl_rest tokens.now result }
 {
-    let (names, rest) = more_declarators(alloc, first, tokens, budget)?;
-    let (_, rest) = expect(rest, Kind::Semicolon)?;
+    let (names, rest) = read!(more_declarators(alloc, first, tokens, budget));
+    let (_, rest) = read!(expect(rest, Kind::Semicolon));
     let decl = Decl {
         life: Life::Unwritten,
         of: WrittenType::Named(of),
         names,
     };
-    Ok((Item::Decl(Box::new(alloc, decl)?), rest))
+    Ok((Item::Decl(held!(Box::new(alloc, decl))), rest))
 }
 
 /// `inst`, or a declaration that a name begins
@@ -116,11 +116,11 @@ fn decl_rest<'a>(
 pub fn named_item<'a>(alloc: Global, tokens: &'a [Token], budget: Budget) -> Read<'a, Item>
     ensures { Reads view.item budget grammar.named_item tokens.now result }
 {
-    let (of, rest) = name(tokens)?;
+    let (of, rest) = read!(name(tokens));
     if is_next(rest, Kind::Hash) {
         return valued_instances(alloc, of, rest, budget);
     }
-    let (first, rest) = name(rest)?;
+    let (first, rest) = read!(name(rest));
     if is_next(rest, Kind::LeftParenthesis) {
         return instances_rest(alloc, of, first, rest, budget);
     }

@@ -26,14 +26,14 @@ use sv_tree::{Item, Kind, Life, Procedure, ProcedureWord, Token};
 fn initial<'a>(alloc: Global, tokens: &'a [Token], budget: Budget) -> Read<'a, Item>
     ensures { Reads view.item budget grammar.initial tokens.now result }
 {
-    let (first, rest) = expect(tokens, Kind::Initial)?;
-    let (body, rest) = statement(alloc, rest, budget)?;
+    let (first, rest) = read!(expect(tokens, Kind::Initial));
+    let (body, rest) = read!(statement(alloc, rest, budget));
     let procedure = Procedure {
         at: first.at,
         word: ProcedureWord::Initial,
         body,
     };
-    Ok((Item::Procedure(Box::new(alloc, procedure)?), rest))
+    Ok((Item::Procedure(held!(Box::new(alloc, procedure))), rest))
 }
 
 /// What modules and programs have in common, but for declarations that a name begins
@@ -65,8 +65,8 @@ impl Part for CommonItems {
     #[tactic(auto, using(crate::proofs::ItemLaws::common_decl, crate::proofs::ItemLaws::common_named, crate::proofs::ItemLaws::common_clocking, crate::proofs::ItemLaws::common_initial, crate::proofs::ItemLaws::common_deep, crate::proofs::ItemLaws::common_null))]
     fn read<'a>(alloc: Global, tokens: &'a [Token], budget: Budget) -> Read<'a, Item> {
         if begins_word_decl(tokens) {
-            let (decl, rest) = word_decl(alloc, tokens, budget)?;
-            return Ok((Item::Decl(Box::new(alloc, decl)?), rest));
+            let (decl, rest) = read!(word_decl(alloc, tokens, budget));
+            return Ok((Item::Decl(held!(Box::new(alloc, decl))), rest));
         }
         if begins::<NamedItems>(tokens) {
             return NamedItems::read(alloc, tokens, budget);
@@ -75,10 +75,10 @@ impl Part for CommonItems {
             return clocking(alloc, tokens, budget);
         }
         if is_next(tokens, Kind::Initial) {
-            budget.deeper(tokens)?;
+            read!(budget.deeper(tokens));
             return initial(alloc, tokens, budget);
         }
-        let (_, rest) = expect(tokens, Kind::Semicolon)?;
+        let (_, rest) = read!(expect(tokens, Kind::Semicolon));
         Ok((Item::Null, rest))
     }
 
@@ -111,9 +111,9 @@ impl Part for ProgramItems {
         if begins::<CommonItems>(tokens) {
             return CommonItems::read(alloc, tokens, budget);
         }
-        let (of, rest) = name(tokens)?;
-        let (decl, rest) = named_decl_rest(alloc, of, rest, budget)?;
-        Ok((Item::Decl(Box::new(alloc, decl)?), rest))
+        let (of, rest) = read!(name(tokens));
+        let (decl, rest) = read!(named_decl_rest(alloc, of, rest, budget));
+        Ok((Item::Decl(held!(Box::new(alloc, decl))), rest))
     }
 
     ghost is_known = { program_item_known };
@@ -130,14 +130,14 @@ impl Repeated for ProgramItems {
 fn always<'a>(alloc: Global, tokens: &'a [Token], budget: Budget) -> Read<'a, Item>
     ensures { Reads view.item budget grammar.always tokens.now result }
 {
-    let ((first, word), rest) = expect_word::<ProcedureWord>(tokens)?;
-    let (body, rest) = statement(alloc, rest, budget)?;
+    let ((first, word), rest) = read!(expect_word::<ProcedureWord>(tokens));
+    let (body, rest) = read!(statement(alloc, rest, budget));
     let procedure = Procedure {
         at: first.at,
         word,
         body,
     };
-    Ok((Item::Procedure(Box::new(alloc, procedure)?), rest))
+    Ok((Item::Procedure(held!(Box::new(alloc, procedure))), rest))
 }
 
 /// `mitem`
@@ -174,7 +174,7 @@ impl Part for ModuleItems {
             return assign(alloc, tokens, budget);
         }
         if is_next_word::<ProcedureWord>(tokens) {
-            budget.deeper(tokens)?;
+            read!(budget.deeper(tokens));
             return always(alloc, tokens, budget);
         }
         named_item(alloc, tokens, budget)

@@ -9,6 +9,26 @@
 //! 4. `parse` says in full what is answered about a file.
 #![tactic(auto)]
 
+/// What was read. Where reading failed, the caller fails as it did: as `?`, for an error that needs no conversion.
+macro_rules! read {
+    ($read:expr) => {
+        match $read {
+            Ok(read) => read,
+            Err(error) => return Err(error),
+        }
+    };
+}
+
+/// What was put into memory. Where none was left, the caller says so: as `?`, without the conversion of the error.
+macro_rules! held {
+    ($held:expr) => {
+        match $held {
+            Ok(held) => held,
+            Err(_) => return Err(sv_parse::ReadError::Memory),
+        }
+    };
+}
+
 mod classes;
 mod clocking;
 mod connections;

@@ -14,9 +14,9 @@ pub fn enclosed_list<'a, P: Listed>(
 ) -> Read<'a, Vec<P::Tree>>
     ensures { Reads (seen P.view) budget (in_parentheses (list P.production)) tokens.now result }
 {
-    let (_, rest) = expect(tokens, Kind::LeftParenthesis)?;
-    let (parts, rest) = list::<P>(alloc, rest, budget)?;
-    let (_, rest) = expect(rest, Kind::RightParenthesis)?;
+    let (_, rest) = read!(expect(tokens, Kind::LeftParenthesis));
+    let (parts, rest) = read!(list::<P>(alloc, rest, budget));
+    let (_, rest) = read!(expect(rest, Kind::RightParenthesis));
     Ok((parts, rest))
 }
 
@@ -28,8 +28,8 @@ pub fn enclosed_list_or_none<'a, P: Listed>(
 ) -> Read<'a, Vec<P::Tree>>
     ensures { Reads (seen P.view) budget (in_parentheses (list_or_none P.production)) tokens.now result }
 {
-    let (_, rest) = expect(tokens, Kind::LeftParenthesis)?;
-    let (parts, rest) = list_or_none::<P>(alloc, rest, budget)?;
-    let (_, rest) = expect(rest, Kind::RightParenthesis)?;
+    let (_, rest) = read!(expect(tokens, Kind::LeftParenthesis));
+    let (parts, rest) = read!(list_or_none::<P>(alloc, rest, budget));
+    let (_, rest) = read!(expect(rest, Kind::RightParenthesis));
     Ok((parts, rest))
 }

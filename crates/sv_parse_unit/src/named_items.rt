@@ -40,16 +40,16 @@ impl Part for NamedItems {
             return item_typedef(alloc, tokens, budget);
         }
         if is_next(tokens, Kind::Virtual) || is_next(tokens, Kind::Class) {
-            let (class, rest) = class(alloc, tokens, budget)?;
-            return Ok((Item::Class(Box::new(alloc, class)?), rest));
+            let (class, rest) = read!(class(alloc, tokens, budget));
+            return Ok((Item::Class(held!(Box::new(alloc, class))), rest));
         }
         if is_next_word::<ParamWord>(tokens) {
-            let (param, rest) = param(alloc, tokens, budget)?;
-            let (_, rest) = expect(rest, Kind::Semicolon)?;
-            return Ok((Item::Param(Box::new(alloc, param)?), rest));
+            let (param, rest) = read!(param(alloc, tokens, budget));
+            let (_, rest) = read!(expect(rest, Kind::Semicolon));
+            return Ok((Item::Param(held!(Box::new(alloc, param))), rest));
         }
-        let (routine, rest) = routine(alloc, tokens, budget)?;
-        Ok((Item::Routine(Box::new(alloc, routine)?), rest))
+        let (routine, rest) = read!(routine(alloc, tokens, budget));
+        Ok((Item::Routine(held!(Box::new(alloc, routine))), rest))
     }
 
     ghost is_known = { named_items_known };

@@ -63,8 +63,8 @@ impl Part for NetItems {
 
     #[tactic(auto, unfolding(sv_tree::specs::UnitGrammar::net_item))]
     fn read<'a>(alloc: Global, tokens: &'a [Token], budget: Budget) -> Read<'a, NetItem> {
-        let (name, rest) = name(tokens)?;
-        let (value, rest) = maybe::<Values>(alloc, rest, budget)?;
+        let (name, rest) = read!(name(tokens));
+        let (value, rest) = read!(maybe::<Values>(alloc, rest, budget));
         Ok((NetItem { name, value }, rest))
     }
 
@@ -80,19 +80,19 @@ impl Listed for NetItems {
 pub fn net<'a>(alloc: Global, tokens: &'a [Token], budget: Budget) -> Read<'a, Item>
     ensures { Reads view.item budget grammar.net tokens.now result }
 {
-    let (word, rest) = net_word(tokens)?;
+    let (word, rest) = read!(net_word(tokens));
     let (_, rest) = skip(rest, Kind::Logic);
     let (sign, rest) = word_or::<Sign>(rest, Sign::Unwritten);
-    let (range, rest) = maybe::<Ranges>(alloc, rest, budget)?;
-    let (names, rest) = list::<NetItems>(alloc, rest, budget)?;
-    let (_, rest) = expect(rest, Kind::Semicolon)?;
+    let (range, rest) = read!(maybe::<Ranges>(alloc, rest, budget));
+    let (names, rest) = read!(list::<NetItems>(alloc, rest, budget));
+    let (_, rest) = read!(expect(rest, Kind::Semicolon));
     let net = NetDecl {
         at: word.at,
         sign,
         range,
         names,
     };
-    Ok((Item::Net(Box::new(alloc, net)?), rest))
+    Ok((Item::Net(held!(Box::new(alloc, net))), rest))
 }
 
 // ---- continuous assignments
@@ -120,8 +120,8 @@ impl Part for AssignItems {
 
     #[tactic(auto, unfolding(sv_tree::specs::UnitGrammar::assign_item))]
     fn read<'a>(alloc: Global, tokens: &'a [Token], budget: Budget) -> Read<'a, AssignItem> {
-        let (target, rest) = lval(alloc, tokens, budget)?;
-        let (value, rest) = Values::read(alloc, rest, budget)?;
+        let (target, rest) = read!(lval(alloc, tokens, budget));
+        let (value, rest) = read!(Values::read(alloc, rest, budget));
         Ok((AssignItem { target, value }, rest))
     }
 
@@ -137,8 +137,8 @@ impl Listed for AssignItems {
 pub fn assign<'a>(alloc: Global, tokens: &'a [Token], budget: Budget) -> Read<'a, Item>
     ensures { Reads view.item budget grammar.assign tokens.now result }
 {
-    let (_, rest) = expect(tokens, Kind::Assign)?;
-    let (items, rest) = list::<AssignItems>(alloc, rest, budget)?;
-    let (_, rest) = expect(rest, Kind::Semicolon)?;
+    let (_, rest) = read!(expect(tokens, Kind::Assign));
+    let (items, rest) = read!(list::<AssignItems>(alloc, rest, budget));
+    let (_, rest) = read!(expect(rest, Kind::Semicolon));
     Ok((Item::Assign(items), rest))
 }

@@ -39,8 +39,8 @@ impl Part for ParamItems {
 
     #[tactic(auto, unfolding(sv_tree::specs::UnitGrammar::param_item))]
     fn read<'a>(alloc: Global, tokens: &'a [Token], budget: Budget) -> Read<'a, ParamItem> {
-        let (name, rest) = name(tokens)?;
-        let (value, rest) = Values::read(alloc, rest, budget)?;
+        let (name, rest) = read!(name(tokens));
+        let (value, rest) = read!(Values::read(alloc, rest, budget));
         Ok((ParamItem { name, value }, rest))
     }
 
@@ -56,11 +56,11 @@ impl Listed for ParamItems {
 pub fn param<'a>(alloc: Global, tokens: &'a [Token], budget: Budget) -> Read<'a, Param>
     ensures { Reads view.param budget grammar.param tokens.now result }
 {
-    let ((_, word), rest) = expect_word::<ParamWord>(tokens)?;
-    let (TypedName { of, name }, rest) = typed_name(alloc, rest, budget)?;
-    let (value, rest) = Values::read(alloc, rest, budget)?;
+    let ((_, word), rest) = read!(expect_word::<ParamWord>(tokens));
+    let (TypedName { of, name }, rest) = read!(typed_name(alloc, rest, budget));
+    let (value, rest) = read!(Values::read(alloc, rest, budget));
     let first = ParamItem { name, value };
-    let (names, rest) = list_after::<ParamItems>(alloc, first, rest, budget)?;
+    let (names, rest) = read!(list_after::<ParamItems>(alloc, first, rest, budget));
     Ok((Param { word, of, names }, rest))
 }
 
@@ -88,10 +88,10 @@ impl Part for ElementParams {
     #[tactic(auto, unfolding(sv_tree::specs::UnitGrammar::element_param))]
     fn read<'a>(alloc: Global, tokens: &'a [Token], budget: Budget) -> Read<'a, Param> {
         let (_, rest) = skip(tokens, Kind::Parameter);
-        let (TypedName { of, name }, rest) = typed_name(alloc, rest, budget)?;
-        let (value, rest) = Values::read(alloc, rest, budget)?;
+        let (TypedName { of, name }, rest) = read!(typed_name(alloc, rest, budget));
+        let (value, rest) = read!(Values::read(alloc, rest, budget));
         let mut names = Vec::new(alloc);
-        names.push(ParamItem { name, value })?;
+        held!(names.push(ParamItem { name, value }));
         let word = ParamWord::Parameter;
         Ok((Param { word, of, names }, rest))
     }
@@ -115,7 +115,7 @@ pub fn maybe_params<'a>(
     if !is_next(tokens, Kind::Hash) {
         return Ok((None, tokens));
     }
-    let (_, rest) = expect(tokens, Kind::Hash)?;
-    let (params, rest) = enclosed_list::<ElementParams>(alloc, rest, budget)?;
+    let (_, rest) = read!(expect(tokens, Kind::Hash));
+    let (params, rest) = read!(enclosed_list::<ElementParams>(alloc, rest, budget));
     Ok((Some(params), rest))
 }

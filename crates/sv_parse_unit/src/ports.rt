@@ -21,9 +21,9 @@ use sv_tree::{ImpliedType, Kind, Port, PortDirection, Token};
 fn directed_port<'a>(alloc: Global, tokens: &'a [Token], budget: Budget) -> Read<'a, Port>
     ensures { Reads view.port budget grammar.directed_port tokens.now result }
 {
-    let ((_, direction), rest) = expect_word::<PortDirection>(tokens)?;
+    let ((_, direction), rest) = read!(expect_word::<PortDirection>(tokens));
     let (is_net, rest) = maybe_net(rest);
-    let (TypedName { of, name }, rest) = typed_name(alloc, rest, budget)?;
+    let (TypedName { of, name }, rest) = read!(typed_name(alloc, rest, budget));
     let port = Port {
         direction: Some(direction),
         is_net,
@@ -57,7 +57,7 @@ impl Part for NextPorts {
         if is_next_word::<PortDirection>(tokens) {
             return directed_port(alloc, tokens, budget);
         }
-        let (name, rest) = name(tokens)?;
+        let (name, rest) = read!(name(tokens));
         let port = Port {
             direction: None,
             is_net: false,
@@ -82,13 +82,13 @@ pub fn maybe_ports<'a>(alloc: Global, tokens: &'a [Token], budget: Budget) -> Re
     if !is_next(tokens, Kind::LeftParenthesis) {
         return Ok((Vec::new(alloc), tokens));
     }
-    let (_, rest) = expect(tokens, Kind::LeftParenthesis)?;
+    let (_, rest) = read!(expect(tokens, Kind::LeftParenthesis));
     if !is_next_word::<PortDirection>(rest) {
-        let (_, rest) = expect(rest, Kind::RightParenthesis)?;
+        let (_, rest) = read!(expect(rest, Kind::RightParenthesis));
         return Ok((Vec::new(alloc), rest));
     }
-    let (first, rest) = directed_port(alloc, rest, budget)?;
-    let (ports, rest) = list_after::<NextPorts>(alloc, first, rest, budget)?;
-    let (_, rest) = expect(rest, Kind::RightParenthesis)?;
+    let (first, rest) = read!(directed_port(alloc, rest, budget));
+    let (ports, rest) = read!(list_after::<NextPorts>(alloc, first, rest, budget));
+    let (_, rest) = read!(expect(rest, Kind::RightParenthesis));
     Ok((ports, rest))
 }

@@ -47,8 +47,8 @@ impl Part for Arguments {
     #[tactic(auto, unfolding(sv_tree::specs::UnitGrammar::argument))]
     fn read<'a>(alloc: Global, tokens: &'a [Token], budget: Budget) -> Read<'a, Argument> {
         let (direction, rest) = maybe_word::<Direction>(tokens);
-        let (TypedName { of, name }, rest) = typed_name(alloc, rest, budget)?;
-        let (default, rest) = maybe::<Values>(alloc, rest, budget)?;
+        let (TypedName { of, name }, rest) = read!(typed_name(alloc, rest, budget));
+        let (default, rest) = read!(maybe::<Values>(alloc, rest, budget));
         let argument = Argument {
             direction,
             of,
@@ -103,18 +103,18 @@ fn called<'a>(alloc: Global, tokens: &'a [Token], budget: Budget) -> Read<'a, Fu
     ensures { Reads called budget grammar.called tokens.now result }
 {
     if is_next(tokens, Kind::New) {
-        let (word, rest) = expect(tokens, Kind::New)?;
-        let name = new_name(alloc, word)?;
+        let (word, rest) = read!(expect(tokens, Kind::New));
+        let name = held!(new_name(alloc, word));
         let returns = Returns::Value(ImpliedType::Unwritten);
         return Ok((FunctionName { returns, name }, rest));
     }
     if is_next(tokens, Kind::Void) {
-        let (_, rest) = expect(tokens, Kind::Void)?;
-        let (name, rest) = name(rest)?;
+        let (_, rest) = read!(expect(tokens, Kind::Void));
+        let (name, rest) = read!(name(rest));
         let returns = Returns::Void;
         return Ok((FunctionName { returns, name }, rest));
     }
-    let (TypedName { of, name }, rest) = typed_name(alloc, tokens, budget)?;
+    let (TypedName { of, name }, rest) = read!(typed_name(alloc, tokens, budget));
     let returns = Returns::Value(of);
     Ok((FunctionName { returns, name }, rest))
 }
@@ -124,10 +124,10 @@ fn called<'a>(alloc: Global, tokens: &'a [Token], budget: Budget) -> Read<'a, Fu
 fn function_head<'a>(alloc: Global, tokens: &'a [Token], budget: Budget) -> Read<'a, Head>
     ensures { Reads view.head budget grammar.function_head tokens.now result }
 {
-    let (word, rest) = expect(tokens, Kind::Function)?;
+    let (word, rest) = read!(expect(tokens, Kind::Function));
     let (life, rest) = word_or::<Life>(rest, Life::Unwritten);
-    let (FunctionName { returns, name }, rest) = called(alloc, rest, budget)?;
-    let (arguments, rest) = maybe_arguments(alloc, rest, budget)?;
+    let (FunctionName { returns, name }, rest) = read!(called(alloc, rest, budget));
+    let (arguments, rest) = read!(maybe_arguments(alloc, rest, budget));
     let head = Head {
         at: word.at,
         life,
@@ -143,10 +143,10 @@ fn function_head<'a>(alloc: Global, tokens: &'a [Token], budget: Budget) -> Read
 fn task_head<'a>(alloc: Global, tokens: &'a [Token], budget: Budget) -> Read<'a, Head>
     ensures { Reads view.head budget grammar.task_head tokens.now result }
 {
-    let (word, rest) = expect(tokens, Kind::Task)?;
+    let (word, rest) = read!(expect(tokens, Kind::Task));
     let (life, rest) = word_or::<Life>(rest, Life::Unwritten);
-    let (name, rest) = name(rest)?;
-    let (arguments, rest) = maybe_arguments(alloc, rest, budget)?;
+    let (name, rest) = read!(name(rest));
+    let (arguments, rest) = read!(maybe_arguments(alloc, rest, budget));
     let head = Head {
         at: word.at,
         life,
@@ -178,8 +178,8 @@ fn routine_name<'a>(alloc: Global, tokens: &'a [Token]) -> Read<'a, Name>
     if is_next(tokens, Kind::Name) {
         return name(tokens);
     }
-    let (word, rest) = expect(tokens, Kind::New)?;
-    Ok((new_name(alloc, word)?, rest))
+    let (word, rest) = read!(expect(tokens, Kind::New));
+    Ok((held!(new_name(alloc, word)), rest))
 }
 
 /// `"endfunction" | "endtask"`, and the tokens after it.
@@ -199,12 +199,12 @@ fn last_word<'a>(tokens: &'a [Token]) -> Read<'a, &'a Token>
 fn routine_end<'a>(alloc: Global, tokens: &'a [Token]) -> Read<'a, Option<Name>>
     ensures { (d : ℕ) → Reads (λ n. n) d grammar.routine_end tokens.now result }
 {
-    let (_, rest) = last_word(tokens)?;
+    let (_, rest) = read!(last_word(tokens));
     if !is_next(rest, Kind::Colon) {
         return Ok((None, rest));
     }
-    let (_, rest) = expect(rest, Kind::Colon)?;
-    let (name, rest) = routine_name(alloc, rest)?;
+    let (_, rest) = read!(expect(rest, Kind::Colon));
+    let (name, rest) = read!(routine_name(alloc, rest));
     Ok((Some(name), rest))
 }
 
@@ -213,10 +213,10 @@ fn routine_end<'a>(alloc: Global, tokens: &'a [Token]) -> Read<'a, Option<Name>>
 pub fn routine<'a>(alloc: Global, tokens: &'a [Token], budget: Budget) -> Read<'a, Routine>
     ensures { Reads view.routine budget grammar.routine tokens.now result }
 {
-    let (head, rest) = head(alloc, tokens, budget)?;
-    let (_, rest) = expect(rest, Kind::Semicolon)?;
-    let (BlockItems { decls, stmts }, rest) = items(alloc, rest, budget)?;
-    let (label, rest) = routine_end(alloc, rest)?;
+    let (head, rest) = read!(head(alloc, tokens, budget));
+    let (_, rest) = read!(expect(rest, Kind::Semicolon));
+    let (BlockItems { decls, stmts }, rest) = read!(items(alloc, rest, budget));
+    let (label, rest) = read!(routine_end(alloc, rest));
     let routine = Routine {
         head,
         decls,

@@ -51,16 +51,16 @@ impl Part for ImpliedTypes {
     #[tactic(auto, using(crate::proofs::TypedLaws::implied_word, crate::proofs::TypedLaws::implied_sign, crate::proofs::TypedLaws::implied_range))]
     fn read<'a>(alloc: Global, tokens: &'a [Token], budget: Budget) -> Read<'a, ImpliedType> {
         if begins_word_type(tokens) {
-            let (of, rest) = word_type(alloc, tokens, budget)?;
+            let (of, rest) = read!(word_type(alloc, tokens, budget));
             return Ok((ImpliedType::Written(of), rest));
         }
         if is_next_word::<Sign>(tokens) {
-            let ((word, sign), rest) = expect_word::<Sign>(tokens)?;
-            let (range, rest) = maybe::<BoxedRanges>(alloc, rest, budget)?;
+            let ((word, sign), rest) = read!(expect_word::<Sign>(tokens));
+            let (range, rest) = read!(maybe::<BoxedRanges>(alloc, rest, budget));
             let at = word.at;
             return Ok((ImpliedType::Vector { at, sign, range }, rest));
         }
-        let (range, rest) = BoxedRanges::read(alloc, tokens, budget)?;
+        let (range, rest) = read!(BoxedRanges::read(alloc, tokens, budget));
         let of = ImpliedType::Vector {
             at: range.at,
             sign: Sign::Unwritten,
@@ -84,12 +84,12 @@ pub struct TypedName {
 fn named_name<'a>(tokens: &'a [Token], budget: Budget) -> Read<'a, TypedName>
     ensures { Reads typed_name budget grammar.named_name tokens.now result }
 {
-    let (first, rest) = name(tokens)?;
+    let (first, rest) = read!(name(tokens));
     if !is_next(rest, Kind::Name) {
         let of = ImpliedType::Unwritten;
         return Ok((TypedName { of, name: first }, rest));
     }
-    let (name, rest) = name(rest)?;
+    let (name, rest) = read!(name(rest));
     let of = ImpliedType::Written(WrittenType::Named(first));
     Ok((TypedName { of, name }, rest))
 }
@@ -102,7 +102,7 @@ pub fn typed_name<'a>(alloc: Global, tokens: &'a [Token], budget: Budget) -> Rea
     if !begins::<ImpliedTypes>(tokens) {
         return named_name(tokens, budget);
     }
-    let (of, rest) = ImpliedTypes::read(alloc, tokens, budget)?;
-    let (name, rest) = name(rest)?;
+    let (of, rest) = read!(ImpliedTypes::read(alloc, tokens, budget));
+    let (name, rest) = read!(name(rest));
     Ok((TypedName { of, name }, rest))
 }

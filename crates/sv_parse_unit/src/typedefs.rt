@@ -25,13 +25,13 @@ fn type_name<'a>(alloc: Global, tokens: &'a [Token], budget: Budget) -> Read<'a,
     ensures class_item { Reads typedef_class_item budget (grammar.typedef_rest classes.Typedef classes.Announce) tokens.now result }
 {
     if is_next(tokens, Kind::Class) {
-        let (_, rest) = expect(tokens, Kind::Class)?;
-        let (name, rest) = name(rest)?;
+        let (_, rest) = read!(expect(tokens, Kind::Class));
+        let (name, rest) = read!(name(rest));
         return Ok((TypeName::Announced(name), rest));
     }
-    let (of, rest) = written_type(alloc, tokens, budget)?;
-    let (name, rest) = name(rest)?;
-    let typedef = Box::new(alloc, Typedef { of, name })?;
+    let (of, rest) = read!(written_type(alloc, tokens, budget));
+    let (name, rest) = read!(name(rest));
+    let typedef = held!(Box::new(alloc, Typedef { of, name }));
     Ok((TypeName::Defined(typedef), rest))
 }
 
@@ -41,9 +41,9 @@ fn typedef<'a>(alloc: Global, tokens: &'a [Token], budget: Budget) -> Read<'a, T
     ensures item { Reads typedef_item budget (grammar.typedef items.Typedef items.Announce) tokens.now result }
     ensures class_item { Reads typedef_class_item budget (grammar.typedef classes.Typedef classes.Announce) tokens.now result }
 {
-    let (_, rest) = expect(tokens, Kind::Typedef)?;
-    let (name, rest) = type_name(alloc, rest, budget)?;
-    let (_, rest) = expect(rest, Kind::Semicolon)?;
+    let (_, rest) = read!(expect(tokens, Kind::Typedef));
+    let (name, rest) = read!(type_name(alloc, rest, budget));
+    let (_, rest) = read!(expect(rest, Kind::Semicolon));
     Ok((name, rest))
 }
 
@@ -51,7 +51,7 @@ fn typedef<'a>(alloc: Global, tokens: &'a [Token], budget: Budget) -> Read<'a, T
 pub fn item_typedef<'a>(alloc: Global, tokens: &'a [Token], budget: Budget) -> Read<'a, Item>
     ensures { Reads view.item budget (grammar.typedef items.Typedef items.Announce) tokens.now result }
 {
-    let (name, rest) = typedef(alloc, tokens, budget)?;
+    let (name, rest) = read!(typedef(alloc, tokens, budget));
     match name {
         TypeName::Defined(typedef) => Ok((Item::Typedef(typedef), rest)),
         TypeName::Announced(name) => Ok((Item::Announce(name), rest)),
@@ -62,7 +62,7 @@ pub fn item_typedef<'a>(alloc: Global, tokens: &'a [Token], budget: Budget) -> R
 pub fn class_typedef<'a>(alloc: Global, tokens: &'a [Token], budget: Budget) -> Read<'a, ClassItem>
     ensures { Reads view.class_item budget (grammar.typedef classes.Typedef classes.Announce) tokens.now result }
 {
-    let (name, rest) = typedef(alloc, tokens, budget)?;
+    let (name, rest) = read!(typedef(alloc, tokens, budget));
     match name {
         TypeName::Defined(typedef) => Ok((ClassItem::Typedef(typedef), rest)),
         TypeName::Announced(name) => Ok((ClassItem::Announce(name), rest)),

@@ -4,7 +4,7 @@ use Rattle.sv_parse_stmt.proofs.BlockLaws.{opens_late, opens_low}
 use Rattle.sv_parse_stmt.proofs.blocks.opening.Goals as goal
 
 pub returns-then-left-gt0 : goal.returns-then-left-gt0
-returns-then-left-gt0 c = opens_late c.args.budget c.in_ok-decls.decls.items (toks c.args.tokens.now) (toks c.in_ok-decls.rest.now) c.in_ok-decls.ensures.0 c.in_ok-decls.ensures.1 (omega arith)
+returns-then-left-gt0 c = opens_late c.args.budget c.in-Ok.read.0.items (toks c.args.tokens.now) (toks c.in-Ok.read.1.now) c.in-Ok.ensures.0 c.in-Ok.ensures.1 (omega arith)
 
 pub returns : goal.returns
-returns c = opens_low c.args.budget c.in_ok-decls.decls.items (toks c.args.tokens.now) (toks c.in_ok-decls.rest.now) c.in_ok-decls.ensures.0 c.in_ok-decls.ensures.1 (omega arith) c.in_ok-no_statement.ensures
+returns c = opens_low c.args.budget c.in-Ok.read.0.items (toks c.args.tokens.now) (toks c.in-Ok.read.1.now) c.in-Ok.ensures.0 c.in-Ok.ensures.1 (omega arith) c.in-Ok-no_statement.ensures
