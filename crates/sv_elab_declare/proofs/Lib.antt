@@ -3,3 +3,4 @@ pub mod VariableLaws
 pub mod ArgumentLaws
 pub mod BlockLaws
 pub mod AloneLaws
+pub mod PortLaws

@@ -1,2 +1,5 @@
 pub mod Added
 pub mod Alone
+pub mod Given
+pub mod Ports
+pub mod Units

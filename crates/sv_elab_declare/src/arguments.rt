@@ -12,7 +12,8 @@ use sv_value::{NoMemory, Seq};
 
 /// The type of an argument: one with neither a direction nor a type has that of the argument before.
 fn type_of<'a>(one: &'a Argument, before: Option<&'a ImpliedType>) -> &'a ImpliedType
-    ensures { implied result.now ≡ entries.type_or (entries.has_direction one.now.direction) (type_before (option_map (λ t. implied t.now) before.entry)) (implied one.now.of) }
+    ensures { implied result.now ≡ entries.type_or (entries.has_direction one.now.direction)
+        (type_before (option_map (λ t. implied t.now) before.entry)) (implied one.now.of) }
 {
     match (&one.of, one.direction, before) {
         (ImpliedType::Unwritten, None, Some(before)) => before,

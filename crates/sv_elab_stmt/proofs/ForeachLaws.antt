@@ -1,10 +1,9 @@
 -- What a `foreach` adds.
-use Rattle.std.proofs.Common.{rules, ◌≡◌, refl, List, [], ◌∷◌, ap, sym, subst}
+use Rattle.std.proofs.Common.{rules, ◌≡◌, refl, List, ap, sym, subst}
 use Rattle.sv_value.specs.declared.place.Place.{Place}
 use Rattle.sv_value.specs.declared.number.RoutineId.{RoutineId}
 use Rattle.sv_flat.specs.declared.class.Routine.{Routine}
 use Rattle.sv_flat.specs.declared.object.Object.{Object}
-use Rattle.sv_flat.specs.declared.stmt.Stmt.{Stmt}
 use Rattle.sv_names.specs.declared.scope.Scope.{Scope}
 use Rattle.sv_names.specs.declared.ty.Ty.{Ty}
 use Rattle.sv_names.specs.declared.ty.Ty.TheVariants as ty
@@ -13,7 +12,7 @@ use Rattle.sv_names.specs.Code.{Code, Numbered, as_routine, changed}
 use Rattle.sv_names.specs.Emits.{Made}
 use Rattle.sv_names.specs.Named.{Around}
 use Rattle.sv_names.specs.Statements.{foreach_code}
-use Rattle.sv_elab_stmt.specs.Foreach.{walk, walk_by}
+use Rattle.sv_elab_stmt.specs.Foreach.{walk}
 
 -- a part with another value
 changed_made : {A B : Type 0} (h : A → B) (rs rs' : List Routine) (os os' : List Object) (a : A) (f : Numbered A) → Made rs rs' os os' a f

@@ -1,5 +1,5 @@
 -- The initializers of a fork.
-use Rattle.std.proofs.Common.{rules, None, ◌≡◌, ℕ, ◌+◌, Bool, true, false, List, [], ◌∷◌, ◌++◌, length, map, Option, Some, ap, sym, subst, ◌∙◌, refl, append-nil}
+use Rattle.std.proofs.Common.{rules, None, ◌≡◌, ℕ, ◌+◌, Bool, true, false, List, [], ◌∷◌, ◌++◌, length, Option, Some, ap, sym, subst, ◌∙◌, refl}
 use Rattle.sv_value.specs.declared.place.Place.{Place}
 use Rattle.sv_value.specs.declared.number.RoutineId.{RoutineId}
 use Rattle.sv_flat.specs.declared.class.Routine.{Routine}
@@ -12,10 +12,9 @@ use Rattle.sv_tree.specs.Stmt.{Decl, Declarator, Init}
 use Rattle.sv_names.specs.declared.checked.Checked.{Checked}
 use Rattle.sv_names.specs.declared.checked.Checked.TheVariants.{Good, Broken}
 use Rattle.sv_names.specs.declared.hoisted.Hoisted.{Hoisted}
-use Rattle.sv_names.specs.declared.named.Named.{Named}
-use Rattle.sv_names.specs.Blocks.{in_sequence, decls_code, declarators_code, declarator_code, local_variable, static_variable, assigned_first, declared_variable, word_stands}
+use Rattle.sv_names.specs.Blocks.{in_sequence, decls_code, declarators_code, declarator_code, local_variable, static_variable, declared_variable, word_stands}
 use Rattle.sv_names.specs.Checked.{given, ◌where_also◌}
-use Rattle.sv_names.specs.Code.{Numbered, Code, empty, just, single, with_objects, as_routine, ◌>>◌, changed}
+use Rattle.sv_names.specs.Code.{Numbered, Code, empty, single, with_objects, as_routine, changed}
 use Rattle.sv_names.specs.Emits.{Made}
 use Rattle.sv_names.specs.Entries.{is_automatic_life}
 use Rattle.sv_names.specs.Named.{Around}

@@ -8,7 +8,7 @@ use Rattle.sv_flat.specs.declared.stmt.Stmt.{Stmt}
 use Rattle.sv_names.specs.declared.checked.Checked.{Checked}
 use Rattle.sv_names.specs.declared.checked.Checked.TheVariants.{Good, Broken}
 use Rattle.sv_names.specs.Blocks.{in_sequence}
-use Rattle.sv_names.specs.Code.{Numbered, Code, just, empty, followed, as_routine, ◌>>◌}
+use Rattle.sv_names.specs.Code.{Numbered, Code, empty, followed, as_routine, ◌>>◌}
 use Rattle.sv_names.proofs.Earlier.{earlier_assoc}
 use Rattle.sv_elab_stmt.specs.Parts.{routines_of}
 

@@ -1,5 +1,5 @@
 -- The labels of a `case`, one by one.
-use Rattle.std.proofs.Common.{rules, ◌≡◌, ◌∙◌, ℕ, ◌+◌, ◌<◌, List, [], ◌∷◌, Option, Some, None, length, drop, get_or, refl, sym, ap}
+use Rattle.std.proofs.Common.{◌≡◌, ◌∙◌, ℕ, ◌+◌, ◌<◌, List, [], ◌∷◌, Option, Some, None, length, drop, get_or, refl, sym, ap}
 use Rattle.sv_value.specs.declared.place.Place.{Place}
 use Rattle.sv_tree.specs.declared.expr.Expr.{Expr}
 use Rattle.sv_tree.specs.declared.statement.CaseItem.{CaseItem, Labels', Default'}

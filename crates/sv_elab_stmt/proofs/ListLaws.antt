@@ -1,9 +1,8 @@
 -- Lists of statements, one statement after another, and a `for` in its scope.
-use Rattle.std.proofs.Common.{◌≡◌, ◌∙◌, ℕ, ◌+◌, ◌<◌, ◌≤◌, List, [], ◌∷◌, Option, length, drop, get_or, refl, sym, ap}
+use Rattle.std.proofs.Common.{◌≡◌, ◌∙◌, ℕ, ◌+◌, ◌<◌, ◌≤◌, List, length, drop, get_or, refl, sym, ap}
 use Rattle.std.proofs.Math.Nat.{add-zero}
 use Rattle.std.proofs.lemmas.List.{drop_all}
 use Rattle.sv_value.specs.declared.place.Place.{Place}
-use Rattle.sv_value.specs.declared.number.RoutineId.{RoutineId}
 use Rattle.sv_tree.specs.declared.word.Name.{Name}
 use Rattle.sv_tree.specs.declared.statement.Stmt.{Stmt}
 use Rattle.sv_tree.specs.declared.statement.CaseItem.{CaseItem, Labels', Default'}
@@ -16,7 +15,7 @@ use Rattle.sv_names.specs.declared.checked.Checked.TheVariants.{Good, Broken}
 use Rattle.sv_names.specs.declared.scope.Scope.{Scope}
 use Rattle.sv_names.specs.Blocks.{scopes_made, scopes_of_items, after_scopes, in_sequence, inside, scope_stands}
 use Rattle.sv_names.specs.Checked.{both, given, put_before, ◌where_also◌}
-use Rattle.sv_names.specs.Code.{Numbered, Code, locals_of, as_routine}
+use Rattle.sv_names.specs.Code.{Code, locals_of}
 use Rattle.sv_names.specs.Entries.{Entry}
 use Rattle.sv_names.specs.Joined.{joined, put_behind}
 use Rattle.sv_names.specs.Named.{Around}

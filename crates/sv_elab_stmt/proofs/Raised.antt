@@ -1,9 +1,9 @@
 -- A statement whose calls stand before it sees all variables one activation further out.
-use Rattle.std.proofs.Common.{rules, arith, ◌≡◌, Bool, true, false, List, [], ◌∷◌, Result, Ok, Err, refl, ap, sym, ◌∙◌, subst}
+use Rattle.std.proofs.Common.{rules, ◌≡◌, true, false, List, [], ◌∷◌, Result, Ok, Err, sym, subst}
 use Rattle.sv_flat.specs.declared.object.DataType.{DataType}
 use Rattle.sv_flat.specs.declared.call.Call.{Call}
 use Rattle.sv_names.specs.declared.checked.Checked.{Checked}
-use Rattle.sv_names.specs.declared.checked.Checked.TheVariants.{Good, Broken}
+use Rattle.sv_names.specs.declared.checked.Checked.TheVariants.{Good}
 use Rattle.sv_names.specs.declared.hoisted.Hoisted.{Hoisted}
 use Rattle.sv_names.specs.declared.refusal.Refusal.{Refusal}
 use Rattle.sv_names.specs.declared.refusal.Refusal.TheVariants.{Rule, Memory}

@@ -1,5 +1,5 @@
 -- How many scopes the items of a `case` make, item by item.
-use Rattle.std.proofs.Common.{arith, ◌≡◌, ◌∙◌, ℕ, ◌+◌, ◌-◌, ◌^◌, ◌<◌, ◌≤◌, min, List, [], ◌∷◌, length, drop, get_or, sym, ap}
+use Rattle.std.proofs.Common.{arith, ◌≡◌, ◌∙◌, ℕ, ◌+◌, ◌<◌, ◌≤◌, min, List, length, drop, get_or, sym, ap}
 use Rattle.std.proofs.lemmas.List.{drop_all}
 use Rattle.sv_tree.specs.declared.statement.CaseItem.{CaseItem, Labels', Default'}
 use Rattle.sv_tree.specs.StmtView.{case_item, case_item_list}

@@ -1,5 +1,5 @@
 -- Forks over the routines of their initializers and children (IEEE 1800-2017, 9.3.2).
-use Rattle.std.specs.Prelude.{◌≡◌, ℕ, List, [], ◌∷◌, Option}
+use Rattle.std.specs.Prelude.{◌≡◌, ℕ, List, [], Option}
 use Rattle.sv_value.specs.declared.place.Place.{Place}
 use Rattle.sv_value.specs.declared.number.RoutineId.{RoutineId}
 use Rattle.sv_flat.specs.declared.object.Declared.{Declared}

@@ -1,7 +1,6 @@
 -- `for` and its parts (IEEE 1800-2017, 12.7.1).
-use Rattle.std.specs.Prelude.{List, Option, None, Some}
+use Rattle.std.specs.Prelude.{List, None, Some}
 use Rattle.sv_value.specs.declared.place.Place.{Place}
-use Rattle.sv_value.specs.declared.number.RoutineId.{RoutineId}
 use Rattle.sv_flat.specs.declared.object.Declared.{Declared}
 use Rattle.sv_flat.specs.declared.stmt.Form.{Form}
 use Rattle.sv_flat.specs.declared.stmt.Form.TheVariants as form

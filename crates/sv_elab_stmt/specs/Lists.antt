@@ -1,5 +1,5 @@
 -- Lists of statements, and statements in their scopes, as the code goes through them (IEEE 1800-2017, 9.3, 12.5 and 12.7).
-use Rattle.std.specs.Prelude.{List, [], ◌∷◌, Option, None}
+use Rattle.std.specs.Prelude.{List, [], Option}
 use Rattle.sv_value.specs.declared.place.Place.{Place}
 use Rattle.sv_value.specs.declared.number.RoutineId.{RoutineId}
 use Rattle.sv_flat.specs.declared.object.Declared.{Declared}

@@ -11,8 +11,8 @@
 //! Each function answers what its definition in `sv_names` gives, or the first rule that is broken, or that memory ran out. These are not
 //! written yet, and only answer that memory ran out: `target_of` and `value_of_name` of `names`, which the table of expressions has for
 //! itself; `new_once` and `first_value` of `assignments`; `call` and `ignored_call` of `calls`; `control`, `named_control` and `after_star`
-//! of `events`; `trigger` and `result_targets` of `leaves`; and all of `settled`, which needs what declarations
-//! stand for. No public function is one of them alone, but whatever has a target, a scope or a call meets one.
+//! of `events`; `trigger` and `result_targets` of `leaves`; and all of `settled`, which needs what declarations stand for. No public function
+//! is one of them alone, but whatever has a target, a scope or a call meets one.
 #![tactic(auto)]
 
 mod amounts;

@@ -1,4 +1,4 @@
-use Rattle.std.proofs.Common.{◌≡◌, Result, Ok, subst}
+use Rattle.std.proofs.Common.{Result, Ok, subst}
 use Rattle.sv_value.specs.declared.number.RoutineId.{RoutineId}
 use Rattle.sv_names.specs.declared.refusal.Refusal.{Refusal}
 use Rattle.sv_names.specs.Checked.{both}

@@ -1,4 +1,4 @@
-use Rattle.std.proofs.Common.{◌≡◌, ◌∙◌, ap, sym, subst}
+use Rattle.std.proofs.Common.{◌∙◌, ap, sym, subst}
 use Rattle.sv_tree.specs.declared.statement.BlockingAssignment.{BlockingAssignment}
 use Rattle.sv_tree.specs.declared.statement.NonblockingAssignment.{NonblockingAssignment}
 use Rattle.sv_tree.specs.declared.statement.OperatorAssignment.{OperatorAssignment}

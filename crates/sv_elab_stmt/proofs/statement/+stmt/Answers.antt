@@ -3,7 +3,6 @@ use Rattle.sv_value.specs.declared.number.RoutineId.{RoutineId}
 use Rattle.sv_flat.specs.declared.object.Declared.{Declared}
 use Rattle.sv_tree.specs.declared.statement.Body.{the_lemmas}
 use Rattle.sv_tree.specs.declared.statement.CaseItem.{CaseItem}
-use Rattle.sv_tree.specs.declared.statement.Decl.{Decl}
 use Rattle.sv_tree.specs.declared.statement.Stmt.{Stmt}
 use Rattle.sv_tree.specs.Stmt as tree
 use Rattle.sv_tree.specs.StmtView as view
