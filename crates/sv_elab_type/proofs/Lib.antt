@@ -1,0 +1,3 @@
+mod DimensionLaws
+mod ItemLaws
+mod MeaningLaws
