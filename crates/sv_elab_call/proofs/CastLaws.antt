@@ -18,7 +18,7 @@ use Rattle.sv_names.specs.Named.{Around}
 use Rattle.sv_names.specs.Targets.{Spot}
 use Rattle.sv_names.specs.Types.{Path, is_array, int_type}
 use Rattle.sv_elab_call.specs.Casting.{class_of_type, cast_at, cast_of}
-use Rattle.sv_elab_call.specs.Passing.{first_two}
+use Rattle.sv_elab_value.specs.Arguments.{first_two}
 
 -- ---- what is cast
 

@@ -58,8 +58,3 @@ passed ar at (f ∷ fs) as' = put_before (next_argument ar at f as') (passed ar 
 abbrev pub none_left : Place → List Arg → Checked (Unit {0})
 none_left at [] = fine
 none_left at (a ∷ as') = broken_at 31 at where_also values_stand (a ∷ as')
-
--- the first two arguments, where there are so many
-abbrev pub first_two : List Arg → Option (Arg × Arg)
-first_two (a ∷ b ∷ as') = Some (a, b)
-first_two as' = None

@@ -10,9 +10,9 @@ ghost use Rattle.sv_elab_call.specs.Forms as forms;
 
 use crate::passing::arguments;
 use crate::rows::in_row;
-use crate::stands::{call_stands, task_stands, type_of, value_stands};
+use crate::types::type_of;
 use std::alloc::Global;
-use sv_elab_value::{code_of, paired};
+use sv_elab_value::{call_stands, code_of, paired, task_stands, value_stands};
 use sv_flat::{Argument, CallForm, Expr};
 use sv_names::{
     Arg, Around, Called, Callee, Checked, Hoisted, Refusal, Ty, Typed, both, copy_expr, where_also,

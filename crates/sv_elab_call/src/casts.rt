@@ -7,11 +7,9 @@ ghost use Rattle.sv_names.specs.Given.{Gives};
 ghost use Rattle.sv_names.specs.Views.{around_in};
 ghost use Rattle.sv_elab_call.specs.Casting as casting;
 
-use crate::first_two;
-use crate::stands::call_stands;
 use std::alloc::Global;
 use sv_elab_select::{Spot, lvalues};
-use sv_elab_value::{code_of, one_item, paired, values_stand};
+use sv_elab_value::{call_stands, code_of, first_two, one_item, paired, values_stand};
 use sv_flat::CallForm;
 use sv_names::{Arg, Around, Called, Hoisted, Refusal, Ty, Typed, both, int_type, where_also};
 use sv_value::{ClassId, Place, Seq};

@@ -1,6 +1,6 @@
 //! Calls of subroutines, over their arguments (IEEE 1800-2017, 8, 13 and 15).
 //!
-//! - `passing` has the arguments of subroutines, `rows` arguments with their calls; `stands` tells where a call may stand.
+//! - `passing` has the arguments of subroutines, `rows` arguments with their calls, `types` types that may break a rule.
 //! - `calls` has calls of subroutines, `casts` of `$cast`; `given` what a call gives as a value.
 //!
 //! Each function answers what its definition in `sv_names` gives, or the first rule that is broken, or that memory ran out.
@@ -11,10 +11,10 @@ mod casts;
 mod given;
 mod passing;
 mod rows;
-mod stands;
+mod types;
 
 pub use calls::subroutine_called;
 pub use casts::cast_called;
 pub use given::as_value;
-pub use passing::first_two;
-pub use stands::{call_stands, task_stands, value_stands};
+pub use passing::arguments;
+pub use rows::in_row;

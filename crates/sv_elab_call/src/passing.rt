@@ -14,7 +14,7 @@ ghost use Rattle.sv_names.specs.Targets as targets;
 ghost use Rattle.sv_names.specs.Views.{around_in};
 ghost use Rattle.sv_elab_call.specs.Passing as passing;
 
-use crate::stands::type_of;
+use crate::types::type_of;
 use std::alloc::Global;
 use std::vec;
 use sv_elab_select::{Spot, lvalues, read_lvalues, read_of, takes};
@@ -327,7 +327,7 @@ fn none_left(at: Place, args: &[Arg]) -> Result<(), Refusal>
 }
 
 /// The arguments of a call. E31: too few or too many, or a value for an output; E16, E17 and E42: one of another type.
-pub(crate) fn arguments(
+pub fn arguments(
     alloc: Global,
     around: &Around,
     at: Place,
@@ -338,18 +338,4 @@ pub(crate) fn arguments(
 {
     let left = none_left(at, behind(formals.len(), args.as_slice()));
     where_also(passed(alloc, around, at, formals, args), left)
-}
-
-/// The first two arguments, where there are so many.
-pub fn first_two(args: Seq<Arg>) -> Option<(Arg, Arg)>
-    ensures { result ≡ passing.first_two args }
-{
-    let mut args = args.into_vec().into_iter();
-    match args.next() {
-        None => None,
-        Some(first) => match args.next() {
-            None => None,
-            Some(second) => Some((first, second)),
-        },
-    }
 }

@@ -30,7 +30,7 @@ fn row_behind(
 
 /// Arguments with their calls, from the left.
 #[tactic(auto, using(crate::proofs::RowLaws::row_first, crate::proofs::RowLaws::row_next))]
-pub(crate) fn in_row(
+pub fn in_row(
     alloc: Global,
     arguments: Seq<Hoisted<Argument>>,
 ) -> Result<Hoisted<Seq<Argument>>, Refusal>

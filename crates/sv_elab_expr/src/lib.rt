@@ -13,5 +13,5 @@ mod operands;
 mod places;
 mod table;
 
-pub use places::place_of;
-pub use table::{args, expr, target_in};
+pub use places::{place_of, place_of_root};
+pub use table::{args, behind_root, expr, named, target_in, target_of_name};

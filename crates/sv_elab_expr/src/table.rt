@@ -16,16 +16,15 @@ use crate::dollar::last_index;
 use crate::operands::{right_of, without_calls};
 use crate::places::{place_of, place_of_cast, place_of_root};
 use std::alloc::Global;
-use sv_elab_name::{
-    Thing, dollar_behind, judged_thing, member_step, outputs_behind, root_thing, value_step,
-};
+use sv_elab_name::{Thing, judged_thing, outputs_behind, root_thing};
 use sv_elab_operator::{binary, choose, join, null, number, parts, repeat, string, time, unary};
 use sv_elab_select::Spot;
 use sv_elab_step::{
-    after, as_concatenation, behind_arg, behind_object, behind_spots, call_step, cast, fault_of,
-    first_output, first_type, in_index, kept, literal_text, more_outputs, no_constructor,
-    outputs_of_system, part_step, select_step, system_of, system_value, target_step,
+    after, as_concatenation, behind_arg, behind_object, behind_spots, fault_of, first_output,
+    first_type, in_index, kept, literal_text, more_outputs, no_constructor, outputs_of_system,
+    part_step, select_step, system_of, system_value, target_step,
 };
+use sv_elab_thing::{call_step, cast, dollar_behind, member_step, value_step};
 use sv_elab_value::counted;
 use sv_names::{Arg, Around, Checked, How, Refusal, Taken, Typed, answer, judged};
 use sv_tree::{Actuals, Expr, Name, Root, Suffix};
@@ -110,7 +109,7 @@ pub fn expr(alloc: Global, e: &Expr, around: &Around) -> Result<Typed, Refusal>
 
 /// A name with what follows it, as a value.
 #[cycle(elaborate)]
-fn named(alloc: Global, root: &Root, suffixes: &[Suffix], around: &Around) -> Result<Typed, Refusal>
+pub fn named(alloc: Global, root: &Root, suffixes: &[Suffix], around: &Around) -> Result<Typed, Refusal>
     ensures { Gives result (name_as_value (around_in around.now) root.now (view.suffix_list suffixes.now)) }
 {
     let place = place_of_root(root);
@@ -120,9 +119,9 @@ fn named(alloc: Global, root: &Root, suffixes: &[Suffix], around: &Around) -> Re
     answer(value)
 }
 
-/// What follows a name, from the left.
+/// A thing, and what follows it, from the left, in an expression that begins at the place.
 #[cycle(elaborate)]
-fn behind_root<'a>(
+pub fn behind_root<'a>(
     alloc: Global,
     place: Place,
     thing: Checked<Thing<'a>>,
@@ -368,7 +367,7 @@ pub fn target_in(
 
 /// A name with what follows it, as a target.
 #[cycle(elaborate)]
-fn target_of_name(
+pub fn target_of_name(
     alloc: Global,
     how: How,
     root: &Root,

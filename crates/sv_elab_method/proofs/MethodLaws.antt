@@ -29,7 +29,7 @@ use Rattle.sv_names.specs.Selects.{index_for}
 use Rattle.sv_names.specs.Targets.{Spot}
 use Rattle.sv_names.specs.Types.{is_array, int_type, item_of, key_of, same_type}
 use Rattle.sv_names.specs.Values.{exactly}
-use Rattle.sv_elab_call.specs.Passing.{first_two}
+use Rattle.sv_elab_value.specs.Arguments.{first_two}
 use Rattle.sv_elab_method.specs.Steps as steps
 
 -- ---- values that are given on

@@ -12,15 +12,14 @@ ghost use Rattle.sv_names.specs.Given.{Gives};
 ghost use Rattle.sv_names.specs.Selects as selects;
 ghost use Rattle.sv_names.specs.Views.{around_in};
 ghost use Rattle.sv_elab_select.specs.Parts as parts;
-ghost use Rattle.sv_elab_call.specs.Passing as passing;
+ghost use Rattle.sv_elab_value.specs.Arguments as passing;
 ghost use Rattle.sv_elab_method.specs.Steps as steps;
 
 use crate::given::{exact_argument, key_of, operator, type_given};
 use crate::sizes::{exists_code, size_code};
 use std::alloc::Global;
-use sv_elab_call::first_two;
 use sv_elab_select::{container_of, counted_index, index_for, key_for};
-use sv_elab_value::{code_of, paired};
+use sv_elab_value::{code_of, first_two, paired};
 use sv_flat::{CallForm, End, Expr};
 use sv_names::{Arg, Around, Called, Hoisted, Outcome, Refusal, Ty, Typed, both, int_type};
 use sv_value::{Place, Plain, Seq};

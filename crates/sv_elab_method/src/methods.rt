@@ -13,8 +13,7 @@ use crate::mailboxes::{Getting, get, messages, put};
 use crate::semaphores::{get_keys, put_keys, text_length, triggered};
 use crate::walks::walk;
 use std::alloc::Global;
-use sv_elab_call::{call_stands, task_stands, value_stands};
-use sv_elab_select::rule;
+use sv_elab_value::{call_stands, rule, task_stands, value_stands};
 use sv_names::{Action, Arg, Around, Called, Method, Outcome, Refusal, Typed, where_also};
 use sv_value::{Place, Seq};
 

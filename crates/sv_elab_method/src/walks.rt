@@ -7,8 +7,8 @@ ghost use Rattle.sv_elab_method.specs.Steps as steps;
 
 use crate::given::key_of;
 use std::alloc::Global;
-use sv_elab_select::{Spot, container_of, read_lvalues, read_of, rule};
-use sv_elab_value::{code_of, paired};
+use sv_elab_select::{Spot, container_of, read_lvalues, read_of};
+use sv_elab_value::{code_of, paired, rule};
 use sv_flat::{CallForm, Expr, WalkStep};
 use sv_names::{Arg, Around, Called, Hoisted, Refusal, Ty, Typed, int_type};
 use sv_value::{Place, Seq};

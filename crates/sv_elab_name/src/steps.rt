@@ -1,22 +1,20 @@
-// Things that may break a rule, and what follows them.
-ghost use Rattle.std.specs.Prelude.{◌≡◌, List, map, IfOk, IfErr};
-ghost use Rattle.sv_names.specs.declared.argument.Arg.{Arg as arg};
+// Things that may break a rule, and which of their arguments are targets.
+ghost use Rattle.std.specs.Prelude.{◌≡◌, IfOk, IfErr};
 ghost use Rattle.sv_names.specs.declared.checked.Checked.{Checked as checked};
 ghost use Rattle.sv_names.specs.declared.checked.Checked.TheVariants.{Good};
 ghost use Rattle.sv_names.specs.declared.refusal.Refusal.TheVariants.{Memory};
-ghost use Rattle.sv_names.specs.Checked.{◌▷◌, given};
+ghost use Rattle.sv_names.specs.Checked.{given};
 ghost use Rattle.sv_names.specs.Calls as calls;
-ghost use Rattle.sv_names.specs.Given.{Gives, GivesAs};
+ghost use Rattle.sv_names.specs.Given.{GivesAs};
 ghost use Rattle.sv_names.specs.Things as things;
 ghost use Rattle.sv_names.specs.Things.{Thing as thing_of};
-ghost use Rattle.sv_names.specs.Views.{around_in};
 ghost use Rattle.sv_elab_name.specs.Things.{thing_in};
 
-use crate::{Thing, dollar_in};
+use crate::Thing;
 use std::alloc::Global;
-use sv_names::{Action, Around, Checked, Dollar, Fault, Formal, Refusal, Typed, judged};
-use sv_tree::{Direction, Name};
-use sv_value::{Place, Seq};
+use sv_names::{Action, Checked, Fault, Formal, Refusal};
+use sv_tree::Direction;
+use sv_value::Seq;
 
 /// What a function answers, as a thing that may break a rule.
 pub fn judged_thing(thing: Result<Thing, Refusal>) -> Result<Checked<Thing>, Refusal>
@@ -27,50 +25,6 @@ pub fn judged_thing(thing: Result<Thing, Refusal>) -> Result<Checked<Thing>, Ref
         Ok(thing) => Ok(Checked::Good(thing)),
         Err(Refusal::Rule { rule, at }) => Ok(Checked::Broken(Fault { at, rule })),
         Err(Refusal::Memory) => Err(Refusal::Memory),
-    }
-}
-
-/// What follows a dot.
-pub fn member_step<'a>(
-    alloc: Global,
-    around: &Around<'a>,
-    place: Place,
-    thing: Checked<Thing<'a>>,
-    name: &Name,
-) -> Result<Checked<Thing<'a>>, Refusal>
-    ensures ok { IfOk result (λ c. given thing_in c ≡ (given thing_in thing.entry ▷ things.after_dot (around_in around.now) place name.now)) }
-    ensures err { IfErr result (λ e. e ≡ Memory) }
-{
-    match thing {
-        Checked::Good(thing) => judged_thing(thing.member(alloc, around, place, name)),
-        Checked::Broken(f) => Ok(Checked::Broken(f)),
-    }
-}
-
-/// A thing as a value.
-pub fn value_step(
-    alloc: Global,
-    around: &Around,
-    place: Place,
-    thing: Checked<Thing>,
-) -> Result<Checked<Typed>, Refusal>
-    ensures ok { IfOk result (λ c. c ≡ (given thing_in thing.entry ▷ things.thing_value (around_in around.now) place)) }
-    ensures err { IfErr result (λ e. e ≡ Memory) }
-{
-    match thing {
-        Checked::Good(thing) => judged(thing.value(alloc, around, place)),
-        Checked::Broken(f) => Ok(Checked::Broken(f)),
-    }
-}
-
-/// What `$` stands for in an index behind a thing.
-pub fn dollar_behind(alloc: Global, thing: &Checked<Thing>) -> Result<Dollar, Refusal>
-    ensures ok { IfOk result (λ d. d ≡ things.dollar_in (given thing_in thing.now)) }
-    ensures err { IfErr result (λ e. e ≡ Memory) }
-{
-    match thing {
-        Checked::Good(thing) => dollar_in(alloc, thing),
-        Checked::Broken(f) => Ok(Dollar::UnknownDollar(*f)),
     }
 }
 
@@ -97,7 +51,7 @@ fn is_output(direction: Direction) -> bool
 }
 
 /// Which arguments of a subroutine are taken as targets, from the first on.
-fn outputs_of(alloc: Global, formals: &[Formal]) -> Result<Seq<bool>, Refusal>
+pub fn outputs_of(alloc: Global, formals: &[Formal]) -> Result<Seq<bool>, Refusal>
     ensures ok { IfOk result (λ os. os ≡ calls.outputs_of formals.now) }
     ensures err { IfErr result (λ e. e ≡ Memory) }
 {

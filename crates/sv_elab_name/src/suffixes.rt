@@ -1,28 +1,19 @@
-// What follows a dot, and what `$` stands for in an index (IEEE 1800-2017, 7.10.1, 8 and 14): E7, E36.
-ghost use Rattle.std.specs.Prelude.{◌≡◌, Some, IfOk, IfErr};
-ghost use Rattle.sv_flat.specs.Expr as flat;
+// What follows a dot (IEEE 1800-2017, 8 and 14): E7, E36.
 ghost use Rattle.sv_names.specs.declared.checked.Checked.{Checked as checked};
 ghost use Rattle.sv_names.specs.declared.checked.Checked.TheVariants.{Good};
-ghost use Rattle.sv_names.specs.declared.refusal.Refusal.TheVariants.{Memory};
 ghost use Rattle.sv_names.specs.declared.typed.Typed.{Typed as typed};
 ghost use Rattle.sv_names.specs.Checked.{◌▷◌, given, unless};
 ghost use Rattle.sv_names.specs.Given.{Gives, GivesAs};
 ghost use Rattle.sv_names.specs.Methods as methods;
 ghost use Rattle.sv_names.specs.Things as things;
-ghost use Rattle.sv_names.specs.Things.{Thing as thing_of};
 ghost use Rattle.sv_names.specs.Views.{around_in};
 ghost use Rattle.sv_elab_name.specs.Things.{thing_in};
 
 use crate::{Thing, member_named, method_of};
 use std::alloc::Global;
-use sv_elab_method::size_expr;
-use sv_elab_value::expr_of;
-use sv_flat::{Expr, ExprForm};
-use sv_names::{
-    Around, Checked, Dollar, Fault, Refusal, SignalInfo, Ty, Typed, copy_path, same_bytes,
-};
+use sv_names::{Around, Checked, Fault, Refusal, SignalInfo, Ty, Typed, copy_path, same_bytes};
 use sv_tree::Name;
-use sv_value::{BinOp, Bits, Place, Text};
+use sv_value::Text;
 
 // ---- members of values
 
@@ -125,50 +116,5 @@ pub fn signal_named<'a>(
             rule: 36,
             at: name.at,
         }),
-    }
-}
-
-// ---- what follows a dot
-
-// ---- `$`
-
-/// The index of the last item of a queue.
-fn last_index(alloc: Global, queue: &Expr) -> Result<Expr, Refusal>
-    ensures ok { IfOk result (λ e. e ≡ things.last_index queue.now) }
-    ensures err { IfErr result (λ e. e ≡ Memory) }
-{
-    let left = size_expr(alloc, queue)?;
-    let value = Bits::new(32, true, 1, 0);
-    let right = expr_of(alloc, ExprForm::Literal { value, fill: None })?;
-    let op = BinOp::Sub;
-    expr_of(alloc, ExprForm::Binary { op, left, right })
-}
-
-/// What `$` stands for in an index of a value.
-fn dollar_of(alloc: Global, t: &Typed) -> Result<Dollar, Refusal>
-    ensures ok { IfOk result (λ d. d ≡ things.dollar_in (Good (things.A_value t.now))) }
-    ensures err { IfErr result (λ e. e ≡ Memory) }
-{
-    if t.ty.is_queue() {
-        let index = last_index(alloc, &t.code.value)?;
-        Ok(Dollar::LastIndex(index))
-    } else {
-        Ok(Dollar::NoDollar)
-    }
-}
-
-/// What `$` stands for in an index behind a thing (7.10.1): the index of the last item of a queue; nothing behind another thing.
-pub fn dollar_in(alloc: Global, thing: &Thing) -> Result<Dollar, Refusal>
-    ensures ok { IfOk result (λ d. d ≡ things.dollar_in (Good (thing_in thing.now))) }
-    ensures err { IfErr result (λ e. e ≡ Memory) }
-{
-    match thing {
-        Thing::Value(t) => dollar_of(alloc, t),
-        Thing::Subroutine { .. } => Ok(Dollar::NoDollar),
-        Thing::Method { .. } => Ok(Dollar::NoDollar),
-        Thing::ItsResult { .. } => Ok(Dollar::NoDollar),
-        Thing::Block { .. } => Ok(Dollar::NoDollar),
-        Thing::Signal { .. } => Ok(Dollar::NoDollar),
-        Thing::TypeName { .. } => Ok(Dollar::NoDollar),
     }
 }

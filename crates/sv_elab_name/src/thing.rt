@@ -10,10 +10,8 @@ ghost use Rattle.sv_elab_name.specs.Things.{thing_in, no_target};
 
 use crate::suffixes::member_of_value;
 use crate::value::{bare_method, bare_subroutine, result_value};
-use crate::{signal_named, signal_read, signal_target, value_member};
+use crate::{Calls, signal_named, signal_read, signal_target, value_member};
 use std::alloc::Global;
-use sv_elab_call::subroutine_called;
-use sv_elab_method::method_called;
 use sv_elab_value::values_stand;
 use sv_names::{
     Arg, Around, Called, Callee, Checked, Fault, Method, Refusal, SignalInfo, Ty, Typed,
@@ -255,7 +253,12 @@ impl<'a> Thing<'a> {
     /// The thing as a value, in an expression that begins at the place. E7: it is a clocking block, a type or a function without brackets,
     /// or the result variable of an activation in the initializer of a static one; E47: a signal that is no input; E51: a result variable
     /// is printed later, and does not last; what a call without brackets breaks (13.4.1).
-    pub fn value(self, alloc: Global, around: &Around, place: Place) -> Result<Typed, Refusal>
+    pub fn value<C: Calls>(
+        self,
+        alloc: Global,
+        around: &Around,
+        place: Place,
+    ) -> Result<Typed, Refusal>
         ensures { Gives result (things.thing_value (around_in around.now) place (thing_in self.entry)) }
     {
         match self {
@@ -265,12 +268,12 @@ impl<'a> Thing<'a> {
                 object,
                 is_direct,
                 at,
-            } => bare_subroutine(alloc, around, place, callee, object, is_direct, at),
+            } => bare_subroutine::<C>(alloc, around, place, callee, object, is_direct, at),
             Thing::Method {
                 method,
                 object,
                 at: _,
-            } => bare_method(alloc, around, place, method, object),
+            } => bare_method::<C>(alloc, around, place, method, object),
             Thing::ItsResult {
                 callee: _,
                 object: _,
@@ -294,7 +297,7 @@ impl<'a> Thing<'a> {
 
     /// What stands behind the thing and a dot, in an expression that begins at the place. E7: the thing is a type; E36: it has no such
     /// member, signal or method; or a rule that it breaks as a value.
-    pub fn member(
+    pub fn member<C: Calls>(
         self,
         alloc: Global,
         around: &Around<'a>,
@@ -317,7 +320,7 @@ impl<'a> Thing<'a> {
                 is_direct,
                 at,
             } => {
-                let value = bare_subroutine(alloc, around, place, callee, object, is_direct, at);
+                let value = bare_subroutine::<C>(alloc, around, place, callee, object, is_direct, at);
                 member_of_value(alloc, around, name, value)
             }
             Thing::Method {
@@ -325,7 +328,7 @@ impl<'a> Thing<'a> {
                 object,
                 at: _,
             } => {
-                let value = bare_method(alloc, around, place, method, object);
+                let value = bare_method::<C>(alloc, around, place, method, object);
                 member_of_value(alloc, around, name, value)
             }
             Thing::ItsResult {
@@ -348,7 +351,7 @@ impl<'a> Thing<'a> {
 
     /// What a call of the thing calls, in an expression that begins at the place. E7: it is no subroutine and no method; or a rule that the
     /// call breaks.
-    pub fn called(
+    pub fn called<C: Calls>(
         self,
         alloc: Global,
         around: &Around,
@@ -364,20 +367,20 @@ impl<'a> Thing<'a> {
                 object,
                 is_direct,
                 at: _,
-            } => subroutine_called(
+            } => C::subroutine_called(
                 alloc, around, place, is_value, callee, object, is_direct, args,
             ),
             Thing::Method {
                 method,
                 object,
                 at: _,
-            } => method_called(alloc, around, place, is_value, method, object, args),
+            } => C::method_called(alloc, around, place, is_value, method, object, args),
             Thing::ItsResult {
                 callee,
                 object,
                 variable: _,
                 at: _,
-            } => subroutine_called(alloc, around, place, is_value, callee, object, false, args),
+            } => C::subroutine_called(alloc, around, place, is_value, callee, object, false, args),
             Thing::Value(t) => not_called(t.at, args.as_slice()),
             Thing::Block {
                 path: _,

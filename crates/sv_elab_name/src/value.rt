@@ -8,17 +8,13 @@ ghost use Rattle.sv_names.specs.declared.method.Called.{Called as called_of};
 ghost use Rattle.sv_names.specs.declared.typed.Typed.{Typed as typed};
 ghost use Rattle.sv_names.specs.Calls as calls;
 ghost use Rattle.sv_names.specs.Checked.{◌▷◌, broken_at};
-ghost use Rattle.sv_names.specs.Given.{Gives, GivesAs};
+ghost use Rattle.sv_names.specs.Given.{Gives};
 ghost use Rattle.sv_names.specs.Named.{Around as around_of};
 ghost use Rattle.sv_names.specs.Things as things;
-ghost use Rattle.sv_names.specs.Things.{Thing as thing_of};
 ghost use Rattle.sv_names.specs.Views.{around_in};
-ghost use Rattle.sv_elab_name.specs.Things.{thing_in};
 
-use crate::{Thing, lasts, object_typed};
+use crate::{Calls, lasts, object_typed};
 use std::alloc::Global;
-use sv_elab_call::{as_value, subroutine_called};
-use sv_elab_method::method_called;
 use sv_names::{
     Around, Begin, Called, Callee, Checked, Method, Refusal, SignalInfo, Ty, Typed, copy_path,
 };
@@ -103,7 +99,7 @@ pub(crate) fn result_value(around: &Around, at: Place, variable: Typed) -> Resul
 // ---- calls without brackets
 
 /// What a call without brackets gives.
-fn given_by(
+fn given_by<C: Calls>(
     alloc: Global,
     around: &Around,
     place: Place,
@@ -113,7 +109,7 @@ fn given_by(
 {
     match c {
         Ok(c) => {
-            let t = as_value(alloc, around, place, c)?;
+            let t = C::as_value(alloc, around, place, c)?;
             Ok(t)
         }
         Err(e) => Err(e),
@@ -121,7 +117,7 @@ fn given_by(
 }
 
 /// A call of a subroutine without brackets.
-fn bare_call(
+fn bare_call<C: Calls>(
     alloc: Global,
     around: &Around,
     place: Place,
@@ -133,14 +129,14 @@ fn bare_call(
         (calls.subroutine_called (around_in around.now) place true callee.now object is_direct [])) }
 {
     let nothing = Seq::new(alloc);
-    let c = subroutine_called(
+    let c = C::subroutine_called(
         alloc, around, place, true, callee, object, is_direct, nothing,
     );
-    given_by(alloc, around, place, c)
+    given_by::<C>(alloc, around, place, c)
 }
 
 /// A call of a method of the language without brackets.
-pub(crate) fn bare_method(
+pub(crate) fn bare_method<C: Calls>(
     alloc: Global,
     around: &Around,
     place: Place,
@@ -151,8 +147,8 @@ pub(crate) fn bare_method(
         (calls.method_called (around_in around.now) place true method object [])) }
 {
     let nothing = Seq::new(alloc);
-    let c = method_called(alloc, around, place, true, method, object, nothing);
-    given_by(alloc, around, place, c)
+    let c = C::method_called(alloc, around, place, true, method, object, nothing);
+    given_by::<C>(alloc, around, place, c)
 }
 
 /// Whether it is a task or a void function.
@@ -166,7 +162,7 @@ fn gives_nothing(ty: &Checked<Ty>) -> bool
 }
 
 /// E7: a function that is no method needs brackets.
-pub(crate) fn bare_subroutine(
+pub(crate) fn bare_subroutine<C: Calls>(
     alloc: Global,
     around: &Around,
     place: Place,
@@ -179,10 +175,10 @@ pub(crate) fn bare_subroutine(
         (things.bare_subroutine (around_in around.now) place callee.now object is_direct at callee.now.class) }
 {
     match &callee.class {
-        Some(_) => bare_call(alloc, around, place, callee, object, is_direct),
+        Some(_) => bare_call::<C>(alloc, around, place, callee, object, is_direct),
         None => {
             if callee.is_task || gives_nothing(&callee.result) {
-                bare_call(alloc, around, place, callee, object, is_direct)
+                bare_call::<C>(alloc, around, place, callee, object, is_direct)
             } else {
                 Err(Refusal::Rule { rule: 7, at })
             }

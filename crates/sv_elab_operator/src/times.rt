@@ -168,9 +168,9 @@ fn whole_ticks(scale: &Scale, text: &[u8]) -> Result<Option<u64>, Refusal>
     ticks_of(number_of(digits), power_of_unit(unit), scale.precision)
 }
 
-/// E52: a time literal is a whole number of ticks, fewer than 2^63.
+/// The ticks of a time literal. E52: they are no whole number, or 2^63 or more.
 #[tactic(auto, using(crate::proofs::TimeLaws::told_whole, crate::proofs::TimeLaws::told_none))]
-fn ticks_in(scale: &Scale, at: Place, text: &[u8]) -> Result<u64, Refusal>
+pub fn ticks_in(scale: &Scale, at: Place, text: &[u8]) -> Result<u64, Refusal>
     ensures { Gives result (operators.ticks_in scale.now at text.now) }
 {
     match whole_ticks(scale, text)? {

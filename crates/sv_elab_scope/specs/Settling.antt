@@ -34,7 +34,7 @@ evaluated_by meant l p g r = by (home_of r.home g.0.classes g.1 (g.1, p))
 
 -- ---- evaluation in place
 
--- what a declaration stands for now, where it is evaluated
+-- what a declaration stands for in a round, where the round evaluates it
 abbrev pub renewal : Bool → Checked Named → Option (Checked Named)
 renewal true c = Some (or_waits c)
 renewal false c = None

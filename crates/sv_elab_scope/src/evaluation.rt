@@ -16,7 +16,7 @@ use std::alloc::Global;
 use sv_names::{Around, Checked, ClassInfo, Named};
 use sv_value::{NoMemory, Seq, Text};
 
-/// What a declaration stands for now, where it is evaluated.
+/// What a declaration stands for in a round, where the round evaluates it.
 fn renewal<M: Means>(
     alloc: Global,
     stage: Stage,
@@ -35,7 +35,7 @@ fn renewal<M: Means>(
     Ok(None)
 }
 
-/// What the declarations of a scope stand for now, where they are evaluated.
+/// What the declarations of a scope stand for in a round, where the round evaluates them.
 fn renewals<M: Means>(
     alloc: Global,
     stage: Stage,
@@ -121,7 +121,7 @@ fn member_renewals<M: Means>(
     Ok(renewed)
 }
 
-/// What the declarations of a group stand for now, where they are evaluated: of the scope itself, and of each class.
+/// What the declarations of a group stand for in a round, where the round evaluates them: of the scope itself, and of each class.
 pub fn evaluated<M: Means>(
     alloc: Global,
     stage: Stage,

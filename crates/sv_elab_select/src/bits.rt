@@ -16,11 +16,11 @@ ghost use Rattle.sv_names.specs.Selects as selects;
 ghost use Rattle.sv_names.specs.Given.{Gives};
 ghost use Rattle.sv_elab_select.specs.Parts as parts;
 
-use crate::rules::{guarded, rule};
+use crate::rules::guarded;
 use std::alloc::Global;
 use std::mem;
 use sv_elab_value::{
-    alone, constant_number, counted, expr_of, index, not_too_wide, paired, pure, value_typed,
+    alone, constant_number, counted, expr_of, index, not_too_wide, paired, pure, rule, value_typed,
 };
 use sv_flat::{Bounds, Expr, ExprForm, Part};
 use sv_names::{Hoisted, Refusal, Target, Ty, Typed, both, copy_expr, plain_vector};

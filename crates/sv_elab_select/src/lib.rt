@@ -19,7 +19,6 @@ mod written;
 
 pub use behind::{behind_target, hidden_of_spots};
 pub use items::{container_of, counted_index, index_for, key_for};
-pub use rules::rule;
 pub use selects::{part_select_of, select_of};
 pub use targets::{Spot, concatenated, may_be_written, may_begin, selects_stand, takes};
 pub use written::{lvalue, lvalues, read_lvalues, read_of, type_of_target};

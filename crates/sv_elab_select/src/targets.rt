@@ -14,9 +14,9 @@ ghost use Rattle.sv_names.specs.Views.{around_in};
 ghost use Rattle.sv_names.specs.Given.{Gives};
 ghost use Rattle.sv_elab_select.specs.Written as written;
 
-use crate::rules::{guarded, rule};
+use crate::rules::guarded;
 use std::alloc::Global;
-use sv_elab_value::{assigned, expr_of, not_too_wide, pure, value_typed};
+use sv_elab_value::{assigned, expr_of, not_too_wide, pure, rule, value_typed};
 use sv_flat::ExprForm;
 use sv_names::{Around, Begin, How, Refusal, Ty, Typed};
 use sv_value::{Place, Seq};

@@ -1,5 +1,4 @@
 pub mod BeforeLaws
-pub mod CastLaws
 mod SpotLaws
 mod SystemLaws
 mod TypeLaws

@@ -5,7 +5,6 @@ ghost use Rattle.sv_names.specs.declared.checked.Checked.TheVariants.{Good, Brok
 ghost use Rattle.sv_names.specs.declared.refusal.Refusal.TheVariants.{Memory};
 ghost use Rattle.sv_names.specs.Checked.{given, fault_of as fault_in, also_broken, only};
 ghost use Rattle.sv_names.specs.Expressions as expressions;
-ghost use Rattle.sv_names.specs.Given.{GivesAs};
 ghost use Rattle.sv_names.specs.Named.{behind};
 ghost use Rattle.sv_names.specs.Things as things;
 ghost use Rattle.sv_names.specs.Things.{Thing as thing_of};
@@ -14,13 +13,11 @@ ghost use Rattle.sv_elab_name.specs.Things.{thing_in};
 
 use crate::behind::behind_value;
 use std::alloc::Global;
-use sv_elab_call::as_value;
-use sv_elab_name::{Thing, hidden_behind, judged_thing};
+use sv_elab_name::{Thing, hidden_behind};
 use sv_elab_select::{part_select_of, select_of};
-use sv_elab_value::values_stand;
-use sv_names::{Arg, Around, Checked, Dollar, Fault, Refusal, Typed, answer, earlier_in, judged};
+use sv_names::{Around, Checked, Dollar, Fault, Refusal, Typed, answer, earlier_in, judged};
 use sv_tree::PartWord;
-use sv_value::{Place, Seq};
+use sv_value::Place;
 
 /// The rule that a thing breaks.
 pub fn fault_of(thing: &Checked<Thing>) -> Option<Fault>
@@ -54,26 +51,7 @@ pub fn in_index<'b, 'a: 'b>(
     }
 }
 
-// ---- calls
-
-/// What a thing that is called gives.
-fn called<'a>(
-    alloc: Global,
-    around: &Around,
-    place: Place,
-    thing: Thing,
-    args: Seq<Arg>,
-) -> Result<Thing<'a>, Refusal>
-    ensures { GivesAs thing_in result (things.after_actuals (around_in around.now) place args (thing_in thing.entry)) }
-{
-    match thing.called(alloc, around, place, true, args) {
-        Ok(c) => {
-            let t = as_value(alloc, around, place, c)?;
-            Ok(Thing::Value(t))
-        }
-        Err(e) => Err(e),
-    }
-}
+// ---- selects
 
 /// What stands behind a thing that breaks a rule can break one too.
 fn also<'a>(f: Fault, stands: &Checked<()>) -> Checked<Thing<'a>>
@@ -81,29 +59,6 @@ fn also<'a>(f: Fault, stands: &Checked<()>) -> Checked<Thing<'a>>
 {
     Checked::Broken(earlier_in(f, stands))
 }
-
-/// A call of what stands before it.
-pub fn call_step<'a>(
-    alloc: Global,
-    around: &Around,
-    place: Place,
-    thing: Checked<Thing>,
-    args: Seq<Arg>,
-) -> Result<Checked<Thing<'a>>, Refusal>
-    ensures ok { IfOk result (λ c. given thing_in c
-        ≡ things.called_step (around_in around.now) place (given thing_in thing.entry) args) }
-    ensures err { IfErr result (λ e. e ≡ Memory) }
-{
-    match thing {
-        Checked::Good(thing) => judged_thing(called(alloc, around, place, thing, args)),
-        Checked::Broken(f) => {
-            let stands = judged(values_stand(args.as_slice()))?;
-            Ok(also(f, &stands))
-        }
-    }
-}
-
-// ---- selects
 
 /// Whether a value breaks a rule, alone.
 fn stands(value: &Checked<Typed>) -> Checked<()>

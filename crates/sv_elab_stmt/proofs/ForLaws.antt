@@ -13,7 +13,7 @@ use Rattle.sv_names.specs.Checked.{both, given}
 use Rattle.sv_names.specs.Code.{Code, single}
 use Rattle.sv_names.specs.Named.{Around}
 use Rattle.sv_names.specs.Statements.{step_code, for_code}
-use Rattle.sv_elab_stmt.specs.Fors.{step_form, for_of}
+use Rattle.sv_elab_flow.specs.Fors.{step_form, for_of}
 
 -- the last part is one statement
 pub step_given : (ar : Around) (at : Place) (l : ForStep) → step_code ar at l ≡ given (single at) (step_form ar l)

@@ -18,8 +18,8 @@ use Rattle.sv_names.specs.Expressions as expressions
 use Rattle.sv_names.specs.Joined.{joined}
 use Rattle.sv_names.specs.Named.{Around, behind, hidden_in}
 use Rattle.sv_names.specs.Targets.{hidden_of_spots}
-use Rattle.sv_elab_stmt.specs.Labels as labels
-use Rattle.sv_elab_stmt.proofs.Sizes.{first_left}
+use Rattle.sv_elab_flow.specs.Labels as labels
+use Rattle.sv_elab_flow.proofs.Left.{first_left}
 
 -- ---- the labels of an item
 
@@ -49,11 +49,6 @@ labels_next ar next t es i e at x label done done' whole within is of_place of_v
     ∙ sym (ap (λ (ys : List Expr). joined done (labels_in ar t (expr_list ys))) (first_left es i e within is)) ∙ so_far
 
 -- ---- the labels of all items
-
--- how many hidden variables they take
-pub same_hidden : (ps : List Placed) → hidden_of_spots ps ≡ hidden_of_labels ps
-same_hidden [] = refl
-same_hidden (p ∷ ps) = ap (λ (n : ℕ). length p.1.code.hidden + n) (same_hidden ps)
 
 -- labels before others
 given_before : (a : Labels) (ys : Checked (List Labels)) → given (λ ls. a ∷ ls) ys ≡ put_before (Good a) ys

@@ -1,13 +1,4 @@
-pub mod Added
-pub mod AssignLaws
-pub mod CaseLaws
 pub mod ForLaws
-pub mod ForeachLaws
-pub mod ForkLaws
-pub mod Grouped
-pub mod HeadLaws
 pub mod LabelLaws
 pub mod ListLaws
-pub mod Raised
-pub mod ScopeLaws
 pub mod Sizes

@@ -22,12 +22,12 @@ use Rattle.sv_names.specs.Named.{Around}
 use Rattle.sv_names.specs.Statements as statements
 use Rattle.sv_names.specs.Statements.{stmts, children, items, condition, in_loop, step_code, child_before}
 use Rattle.sv_names.proofs.Joined.{next_joined, joined_last}
-use Rattle.sv_elab_stmt.specs.Fors.{first_value}
+use Rattle.sv_elab_flow.specs.Fors.{first_value}
 use Rattle.sv_elab_stmt.specs.Lists.{codes, item_code, for_in}
-use Rattle.sv_elab_stmt.specs.Parts.{routines_of}
+use Rattle.sv_elab_flow.specs.Parts.{routines_of}
 use Rattle.sv_elab_stmt.proofs.ForLaws.{first_given}
-use Rattle.sv_elab_stmt.proofs.Grouped.{in_sequence_grouped, none_last}
-use Rattle.sv_elab_stmt.proofs.Sizes.{first_left}
+use Rattle.sv_elab_flow.proofs.Grouped.{in_sequence_grouped, none_last}
+use Rattle.sv_elab_flow.proofs.Left.{first_left}
 
 -- ---- statements in sequence
 

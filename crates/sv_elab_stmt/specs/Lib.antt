@@ -1,11 +1,2 @@
-pub mod Assigned
-pub mod CaseSteps
 pub mod Delays
-pub mod Foreach
-pub mod Forks
-pub mod Fors
-pub mod Heads
-pub mod Labels
 pub mod Lists
-pub mod Parts
-pub mod Returned

@@ -20,7 +20,7 @@ use Rattle.sv_names.specs.Code.{Numbered, Code, empty, locals_of}
 use Rattle.sv_names.specs.Named.{Around}
 use Rattle.sv_names.specs.Statements as statements
 use Rattle.sv_names.specs.Statements.{stmt, stmts, children, condition, in_loop, in_fork, step_code, block_entries, foreach_code}
-use Rattle.sv_elab_stmt.specs.Fors.{for_of, for_inside}
+use Rattle.sv_elab_flow.specs.Fors.{for_of, for_inside}
 
 -- ---- lists
 

@@ -6,7 +6,7 @@ ghost use Rattle.sv_tree.specs.View as view;
 ghost use Rattle.sv_names.specs.Emits.{Emits};
 ghost use Rattle.sv_names.specs.Statements as statements;
 ghost use Rattle.sv_names.specs.Views.{around_in};
-ghost use Rattle.sv_elab_stmt.specs.Parts as parts;
+ghost use Rattle.sv_elab_flow.specs.Parts as parts;
 
 use std::alloc::Global;
 use sv_flat::Stmt;

@@ -11,11 +11,10 @@ ghost use Rattle.sv_names.specs.Views.{around_in};
 ghost use Rattle.sv_elab_assign.specs.Amounts.{amount_in};
 ghost use Rattle.sv_elab_stmt.specs.Delays as delays;
 
-use crate::amounts::amount_of;
-use crate::around::raised;
-use crate::values::needs_activation;
 use std::alloc::Global;
 use sv_elab_assign::Amount;
+use sv_elab_flow::{needs_activation, raised};
+use sv_elab_write::amount_of;
 use sv_flat::Form;
 use sv_names::{Around, Checked, Fault, Hoisted, Refusal};
 use sv_tree::{Delay, Expr};
@@ -49,7 +48,7 @@ fn delay_once(alloc: Global, e: &Expr, around: &Around) -> Result<Hoisted<Form>,
 }
 
 /// `#d` (9.4.1). E15 and E42: it is no number; E52: a time literal is no whole number of ticks.
-#[tactic(auto, using(crate::proofs::Raised::raised_once, crate::proofs::Raised::raised_again))]
+#[tactic(auto, using(sv_elab_flow::proofs::RaisedLaws::raised_once, sv_elab_flow::proofs::RaisedLaws::raised_again))]
 pub fn delay(alloc: Global, delay: &Delay, around: &Around) -> Result<Hoisted<Form>, Refusal>
     ensures { Gives result (raised (around_in around.now)
         (λ i. given statements.delay_form (assignments.amount_of i (view.expr delay.now.amount)))) }
@@ -117,7 +116,7 @@ fn cycles_once(
 
 /// `##n`, at its sign (14.11). E15 and E42: it is no number; E48: there is no default clocking block; E52: a time literal is no whole number
 /// of ticks.
-#[tactic(auto, using(crate::proofs::Raised::raised_once, crate::proofs::Raised::raised_again))]
+#[tactic(auto, using(sv_elab_flow::proofs::RaisedLaws::raised_once, sv_elab_flow::proofs::RaisedLaws::raised_again))]
 pub fn cycles(alloc: Global, at: Place, e: &Expr, around: &Around) -> Result<Hoisted<Form>, Refusal>
     ensures { Gives result (raised (around_in around.now)
         (λ i. statements.cycles_form i at (assignments.amount_of i (view.expr e.now)))) }

@@ -11,10 +11,10 @@ ghost use Rattle.sv_names.specs.Events as events;
 ghost use Rattle.sv_names.specs.Given.{Gives};
 ghost use Rattle.sv_names.specs.Statements as statements;
 ghost use Rattle.sv_names.specs.Views.{around_in};
-ghost use Rattle.sv_elab_stmt.specs.Parts as parts;
+ghost use Rattle.sv_elab_flow.specs.Parts as parts;
 
-use crate::sequence::then;
 use std::alloc::Global;
+use sv_elab_flow::then;
 use sv_flat::{Form, Stmt};
 use sv_names::{Around, Hoisted, Refusal};
 use sv_tree::{Event, EventPart, Name, Stmt as TreeStmt};

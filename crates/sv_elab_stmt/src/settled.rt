@@ -114,14 +114,6 @@ pub fn foreach_stands(
 
 // ---- variables
 
-/// The variables of the activation of a scope. Not written yet.
-pub fn locals_of(_alloc: Global, _scope: &Scope, _around: &Around) -> Result<Seq<Declared>, Refusal>
-    ensures ok { IfOk result (λ locals. locals ≡ code.locals_of (around_in _around.now).numbers _scope.now) }
-    ensures err { IfErr result (λ e. e ≡ Memory) }
-{
-    Err(Refusal::Memory)
-}
-
 /// The objects of the static variables, and the assignments to the others. Not written yet.
 pub fn declarations(
     _alloc: Global,

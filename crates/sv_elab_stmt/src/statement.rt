@@ -13,35 +13,31 @@ ghost use Rattle.sv_names.specs.Emits.{Emits};
 ghost use Rattle.sv_names.specs.Given.{Gives};
 ghost use Rattle.sv_names.specs.Statements as statements;
 ghost use Rattle.sv_names.specs.Views.{around_in};
-ghost use Rattle.sv_elab_stmt.specs.Forks as forks;
+ghost use Rattle.sv_elab_flow.specs.Forks as forks;
 ghost use Rattle.sv_elab_stmt.specs.Lists as lists;
-ghost use Rattle.sv_elab_stmt.specs.Parts as parts;
-ghost use Rattle.sv_elab_stmt.specs.Parts.{EmitsRoutine, EmitsOf};
+ghost use Rattle.sv_elab_flow.specs.Parts as parts;
+ghost use Rattle.sv_elab_flow.specs.Parts.{EmitsRoutine, EmitsOf};
 
-use crate::around::{in_event, in_loop};
-use crate::assignments::{assign_value, first_value};
-use crate::blocks::{block, enclosed, end_label, inside};
-use crate::branches::{if_else, if_only, two_routines};
-use crate::case::case_made;
-use crate::code::routine;
 use crate::delays::{cycles, delay};
 use crate::events::at_event;
-use crate::foreach::{foreach_loop, walked_array};
-use crate::forks::{first_routine, fork, fork_parts, fork_stands, in_fork};
-use crate::fors::{for_loop, step_routine};
+use crate::foreach::walked_array;
+use crate::fors::step_routine;
 use crate::heads::case_heads;
-use crate::loops::{do_loop, do_turn, forever, repeat_loop, while_loop};
-use crate::rules::{guarded_code, may_wait_here};
-use crate::scopes::{after, after_item};
-use crate::sequence::{and_routine, in_sequence, no_routine, nothing, then};
+use crate::rules::may_wait_here;
 use crate::settled::{
     block_scope, block_stands, declarations, for_scope, for_stands, foreach_scope, foreach_stands,
-    locals_of,
 };
 use crate::single::single_statement;
 use crate::values::condition;
-use crate::waits::wait_form;
 use std::alloc::Global;
+use sv_elab_flow::{
+    after, after_item, and_routine, block, case_made, do_loop, do_turn, enclosed, end_label,
+    first_routine, for_loop, foreach_loop, forever, fork, fork_parts, fork_stands, guarded_code,
+    if_else, if_only, in_event, in_fork, in_loop, in_sequence, inside, no_routine, nothing, place,
+    repeat_loop, routine, then, two_routines, wait_form, while_loop,
+};
+use sv_elab_object::locals_of;
+use sv_elab_write::{assign_value, first_value};
 use sv_flat::{Declared, Form, Object, Routine, Stmt as FlatStmt};
 use sv_names::{Around, Checked, Hoisted, Refusal, Returns, Scope, Typed, answer, both};
 use sv_tree::{Body, CaseItem, Decl, Expr, ForInit, ForStep, JoinWord, Name, Stmt};
@@ -492,7 +488,7 @@ fn for_in(
     let outer = *around;
     let scopes = enclosed(alloc, &*scope, outer.scopes)?;
     let inner = inside(&outer, scopes.as_slice());
-    let first = first_value(alloc, s, name, value, &inner);
+    let first = first_value(alloc, place(s), name, value, &inner);
     for_from(
         alloc, body, s, locals, first, test, step, &inner, routines, objects,
     )

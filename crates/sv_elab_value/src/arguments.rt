@@ -1,4 +1,4 @@
-// What arguments break by themselves (IEEE 1800-2017, 13.5).
+// What arguments break by themselves, and the first of them (IEEE 1800-2017, 13.5).
 ghost use Rattle.std.specs.Prelude.{◌≡◌, ◌∷◌, List, IfOk, IfErr};
 ghost use Rattle.sv_names.specs.declared.argument.Arg.{Arg as arg};
 ghost use Rattle.sv_names.specs.declared.refusal.Refusal.TheVariants.{Memory};
@@ -6,8 +6,10 @@ ghost use Rattle.sv_names.specs.Arguments as arguments;
 ghost use Rattle.sv_names.specs.Checked.{◌▷◌, ◌where_also◌, rule};
 ghost use Rattle.sv_names.specs.Types as types;
 ghost use Rattle.sv_names.specs.Given.{Gives};
+ghost use Rattle.sv_elab_value.specs.Arguments as parts;
 
 use sv_names::{Arg, Checked, Fault, Refusal, Taken, Typed, and_guard, answer, judged};
+use sv_value::Seq;
 
 /// E42: no whole array.
 fn value_stands(value: &Checked<Typed>) -> Result<(), Refusal>
@@ -57,4 +59,18 @@ pub fn values_stand(args: &[Arg]) -> Result<(), Refusal>
         stands = and_stands(stands, a)?;
     }
     answer(stands)
+}
+
+/// The first two arguments, where there are so many.
+pub fn first_two(args: Seq<Arg>) -> Option<(Arg, Arg)>
+    ensures { result ≡ parts.first_two args }
+{
+    let mut args = args.into_vec().into_iter();
+    match args.next() {
+        None => None,
+        Some(first) => match args.next() {
+            None => None,
+            Some(second) => Some((first, second)),
+        },
+    }
 }

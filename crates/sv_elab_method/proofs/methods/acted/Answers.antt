@@ -7,7 +7,7 @@ use Rattle.sv_names.specs.declared.method.Called.{Called}
 use Rattle.sv_names.specs.Calls as calls
 use Rattle.sv_names.specs.Given.{Gives}
 use Rattle.sv_names.specs.Views.{around_in}
-use Rattle.sv_elab_call.specs.Passing.{first_two}
+use Rattle.sv_elab_value.specs.Arguments.{first_two}
 use Rattle.sv_elab_method.specs.Steps as steps
 use Rattle.sv_elab_method.proofs.MethodLaws.{first_acted, insert_is, does}
 use Rattle.sv_elab_method.proofs.methods.acted.Goals as goal

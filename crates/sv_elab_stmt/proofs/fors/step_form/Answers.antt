@@ -3,7 +3,7 @@ use Rattle.sv_tree.specs.declared.statement.ForStep.{ForStep}
 use Rattle.sv_tree.specs.StmtView as view
 use Rattle.sv_names.specs.Given.{Gives}
 use Rattle.sv_names.specs.Views.{around_in}
-use Rattle.sv_elab_stmt.specs.Fors as fors
+use Rattle.sv_elab_flow.specs.Fors as fors
 use Rattle.sv_elab_stmt.proofs.fors.step_form.Goals as goal
 
 pub returns-in-Step : goal.returns-in-Step

@@ -5,7 +5,7 @@ use Rattle.sv_names.specs.Given.{Gives}
 use Rattle.sv_names.specs.Statements as statements
 use Rattle.sv_names.specs.Types.{Path}
 use Rattle.sv_names.specs.Views.{around_in}
-use Rattle.sv_elab_stmt.specs.Returned as returned
+use Rattle.sv_elab_flow.specs.Returned as returned
 use Rattle.sv_elab_stmt.proofs.leaves.with_value.Goals as goal
 
 pub returns-in-SomeValue : goal.returns-in-SomeValue

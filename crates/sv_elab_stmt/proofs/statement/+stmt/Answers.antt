@@ -1,5 +1,6 @@
 use Rattle.std.proofs.Common.{rules, ◌≡◌, ◌∙◌, List, [], map, ap, sym, subst, refl}
 use Rattle.sv_value.specs.declared.number.RoutineId.{RoutineId}
+use Rattle.sv_value.specs.declared.place.Place.{Place}
 use Rattle.sv_flat.specs.declared.object.Declared.{Declared}
 use Rattle.sv_tree.specs.declared.statement.Body.{the_lemmas}
 use Rattle.sv_tree.specs.declared.statement.CaseItem.{CaseItem}
@@ -14,19 +15,20 @@ use Rattle.sv_names.specs.Blocks as blocks
 use Rattle.sv_names.specs.Checked.{both, given, ◌where_also◌}
 use Rattle.sv_names.specs.Code.{Numbered, Code, empty}
 use Rattle.sv_names.specs.Emits.{Emits}
+use Rattle.sv_names.specs.Given.{Gives}
 use Rattle.sv_names.specs.Joined.{put_behind}
 use Rattle.sv_names.specs.Named.{Around, raised}
 use Rattle.sv_names.specs.Cases.{case_heads}
 use Rattle.sv_names.specs.Statements as statements
 use Rattle.sv_names.specs.Views.{around_in}
 use Rattle.sv_names.proofs.Joined.{joined_first}
-use Rattle.sv_elab_stmt.specs.Forks.{fork_parts}
-use Rattle.sv_elab_stmt.specs.Fors as fors
+use Rattle.sv_elab_flow.specs.Forks.{fork_parts}
+use Rattle.sv_elab_flow.specs.Fors as fors
 use Rattle.sv_elab_stmt.specs.Lists as lists
-use Rattle.sv_elab_stmt.specs.Parts.{EmitsOf, place_of, routines_of}
-use Rattle.sv_elab_stmt.proofs.Added.{emitted_of}
-use Rattle.sv_elab_stmt.proofs.ForkLaws.{steady_decls}
-use Rattle.sv_elab_stmt.proofs.Grouped.{none_first}
+use Rattle.sv_elab_flow.specs.Parts.{EmitsOf, place_of, routines_of}
+use Rattle.sv_elab_flow.proofs.Added.{emitted_of}
+use Rattle.sv_elab_flow.proofs.ForkLaws.{steady_decls}
+use Rattle.sv_elab_flow.proofs.Grouped.{none_first}
 use Rattle.sv_elab_stmt.proofs.ListLaws.{stmts_next, stmts_all, codes_next, codes_all, children_are, items_next, items_all, for_in_is}
 use Rattle.sv_elab_stmt.proofs.Sizes.{case_is, block_is, fork_is}
 use Rattle.sv_elab_stmt.proofs.statement.+stmt.Goals as goal
@@ -310,9 +312,11 @@ for_in-returns t c =
     let x = view.stmt c.args.body.now in
     let i = around_in c.inside-inner.result in
     let place : i ≡ blocks.inside c.args.scope.now ar = search rules in
+    let first : Gives c.first_value-first.result (fors.first_value i at n v) =
+    subst (λ (p : Place). Gives c.first_value-first.result (fors.first_value i p n v)) c.place.ensures c.first_value-first.ensures in
     let with_locals : List Declared → Type 0 = λ ls. Emits rs rs' os os' c.for_from.result (fors.for_inside (blocks.inside c.args.scope.now ar) at ls n v e l (λ j. statements.stmt j x)) in
     let at_place : Around → Type 0 = λ j. Emits rs rs' os os' c.for_from.result (fors.for_inside j at c.in_ok-locals.locals n v e l (λ k. statements.stmt k x)) in
-    subst with_locals c.in_ok-locals.ensures.ok (subst at_place place (c.for_from.ensures (fors.first_value i at n v) c.first_value-first.ensures))
+    subst with_locals c.in_ok-locals.ensures.ok (subst at_place place (c.for_from.ensures (fors.first_value i at n v) first))
 
 pub foreach_in-returns : goal.foreach_in-returns
 foreach_in-returns t c =

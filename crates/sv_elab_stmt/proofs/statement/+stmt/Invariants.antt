@@ -8,7 +8,7 @@ use Rattle.sv_names.specs.Joined.{joined}
 use Rattle.sv_names.specs.Statements as statements
 use Rattle.sv_names.specs.Views.{around_in}
 use Rattle.sv_elab_stmt.specs.Lists as lists
-use Rattle.sv_elab_stmt.specs.Parts.{EmitsOf, place_of, routines_of}
+use Rattle.sv_elab_flow.specs.Parts.{EmitsOf, place_of, routines_of}
 use Rattle.sv_elab_stmt.proofs.statement.+stmt.Given as goal
 
 abbrev pub invariant-stmts-loop-x : goal.invariant-stmts-loop-x

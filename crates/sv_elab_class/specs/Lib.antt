@@ -1,0 +1,4 @@
+pub mod Heads
+pub mod Infos
+pub mod Lists
+pub mod Rules

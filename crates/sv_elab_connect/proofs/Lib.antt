@@ -1,0 +1,4 @@
+pub mod GivingLaws
+pub mod LinkLaws
+pub mod FitLaws
+pub mod ObjectLaws

@@ -1,0 +1,3 @@
+pub mod DrivenLaws
+pub mod ProcessLaws
+pub mod CountLaws

@@ -1,0 +1,11 @@
+pub mod Added
+pub mod CaseLaws
+pub mod ForeachLaws
+pub mod ForkLaws
+pub mod Grouped
+pub mod HeadLaws
+pub mod LabelLaws
+pub mod Left
+pub mod RaisedLaws
+pub mod ResultLaws
+pub mod ScopeLaws

@@ -1,0 +1,9 @@
+pub mod CaseSteps
+pub mod Foreach
+pub mod Forks
+pub mod Fors
+pub mod Heads
+pub mod Labels
+pub mod Parts
+pub mod Results
+pub mod Returned

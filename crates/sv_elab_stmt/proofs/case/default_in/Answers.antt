@@ -1,5 +1,0 @@
-use Rattle.sv_elab_stmt.proofs.CaseLaws.{default_end}
-use Rattle.sv_elab_stmt.proofs.case.default_in.Goals as goal
-
-pub returns-in_default : goal.returns-in_default
-returns-in_default c = default_end c.loop-item.default _ _ c.loop-item.rest.now c.in_default.len_below c.loop-item.invariant

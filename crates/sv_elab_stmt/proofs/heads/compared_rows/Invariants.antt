@@ -1,7 +1,0 @@
-use Rattle.std.proofs.Common.{◌≡◌}
-use Rattle.sv_elab_stmt.specs.Heads as heads
-use Rattle.sv_elab_stmt.proofs.heads.compared_rows.Given as goal
-
-abbrev pub invariant-loop-row : goal.invariant-loop-row
-invariant-loop-row l =
-    heads.both_rows l.all (heads.all_compared l.fn.context l.row-iterator.rest.items) ≡ heads.all_compared l.fn.context l.fn.rows

@@ -1,0 +1,2 @@
+mod FormalLaws
+mod ResultLaws

@@ -1,0 +1,3 @@
+pub mod Formals
+pub mod Results
+pub mod Bodies

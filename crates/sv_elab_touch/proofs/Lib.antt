@@ -1,0 +1,3 @@
+pub mod TouchedLaws
+pub mod StepLaws
+pub mod OutputLaws

@@ -1,0 +1,4 @@
+pub mod DefinitionLaws
+pub mod UsedLaws
+pub mod RootLaws
+pub mod ListLaws

@@ -1,0 +1,4 @@
+pub mod Definitions
+pub mod Ports
+pub mod Params
+pub mod Roots

@@ -1,0 +1,4 @@
+pub mod AssignLaws
+pub mod NewLaws
+pub mod TargetLaws
+pub mod VariableLaws

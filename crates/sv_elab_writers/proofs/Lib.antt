@@ -1,0 +1,7 @@
+pub mod WrittenLaws
+pub mod ListLaws
+pub mod ReachedLaws
+pub mod ClashLaws
+pub mod ProcessLaws
+pub mod FlatLaws
+pub mod LimitLaws

@@ -1,0 +1,5 @@
+pub mod Views
+pub mod Laws
+pub mod Reaching
+pub mod Processes
+pub mod Counting

@@ -1,0 +1,161 @@
+// Two writers of one object (IEEE 1800-2017, 6.5, 9.2.2.2 and 10.3): E20, E22, E23.
+ghost use Rattle.std.specs.Prelude.{◌≡◌, List, map};
+ghost use Rattle.sv_names.specs.Checked as rules;
+ghost use Rattle.sv_names.specs.Checked.{all};
+ghost use Rattle.sv_names.specs.Writers as writers;
+ghost use Rattle.sv_elab_writers.specs.Laws as laws;
+ghost use Rattle.sv_elab_writers.specs.Views.{writer_in, write_in, initialized_in};
+
+use crate::writes::Write;
+use crate::{Initialized, Writer};
+use sv_names::{Checked, Fault, and_guard, same_path, same_place};
+use sv_value::{Place, Text};
+
+/// What two writes of one object may not be.
+#[derive(Clone, Copy)]
+pub(crate) enum Law {
+    /// A continuous one and a further one (10.3).
+    Continuous,
+    /// Of two processes, one of which lets no other write (9.2.2.2).
+    Alone,
+}
+
+/// The rule at a place, where it is broken there.
+fn rule(rule: u8, at: Place, is_broken: bool) -> Checked<()>
+    ensures { result ≡ rules.rule rule at is_broken }
+{
+    if is_broken {
+        Checked::Broken(Fault { at, rule })
+    } else {
+        Checked::Good(())
+    }
+}
+
+/// Whether one place stands before another one.
+fn place_before(a: Place, b: Place) -> bool
+    ensures { result ≡ rules.place_before a b }
+{
+    if a.file != b.file {
+        a.file < b.file
+    } else if a.line != b.line {
+        a.line < b.line
+    } else {
+        a.col < b.col
+    }
+}
+
+/// Whether it writes again and again.
+fn is_continuous(writer: Writer) -> bool
+    ensures { result ≡ writers.is_continuous (writer_in writer) }
+{
+    match writer {
+        Writer::Continuously => true,
+        Writer::Alone | Writer::Shared | Writer::NoProcess => false,
+    }
+}
+
+/// Whether no other process may write.
+pub(crate) fn is_alone(writer: Writer) -> bool
+    ensures { result ≡ writers.is_alone (writer_in writer) }
+{
+    match writer {
+        Writer::Alone => true,
+        Writer::Continuously | Writer::Shared | Writer::NoProcess => false,
+    }
+}
+
+/// Whether two writes are of one continuous writer.
+fn same_continuous(v: Write, w: Write) -> bool
+    ensures { result ≡ writers.same_continuous (write_in v.entry) (write_in w.entry) }
+{
+    is_continuous(v.writer) && is_continuous(w.writer) && v.process == w.process
+}
+
+/// Whether a write comes before another one, by place and then by number of process.
+fn comes_first(v: Write, w: Write) -> bool
+    ensures { result ≡ writers.comes_first (write_in v.entry) (write_in w.entry) }
+{
+    place_before(v.at, w.at) || (same_place(v.at, w.at) && v.process < w.process)
+}
+
+/// Whether a later write clashes with a continuous one, or a continuous one with another one before it.
+fn clashes_continuous(w: Write, v: Write) -> bool
+    ensures { result ≡ laws.clashes_continuous (write_in w.entry) (write_in v.entry) }
+{
+    (is_continuous(v.writer) || is_continuous(w.writer))
+        && place_before(v.at, w.at)
+        && same_path(v.object, w.object)
+        && !same_continuous(v, w)
+}
+
+/// Whether a later write of another process clashes with one that stands alone, or the other way round.
+fn clashes_alone(w: Write, v: Write) -> bool
+    ensures { result ≡ laws.clashes_alone (write_in w.entry) (write_in v.entry) }
+{
+    (is_alone(v.writer) || is_alone(w.writer))
+        && v.process != w.process
+        && comes_first(v, w)
+        && same_path(v.object, w.object)
+}
+
+/// Whether a write clashes with one of all.
+fn has_clash(law: Law, writes: &[Write], w: Write) -> bool
+    ensures { result ≡ writers.some (laws.clashes law (write_in w.entry)) (map write_in writes.now) }
+{
+    for v in writes {
+        let clashes = match law {
+            Law::Continuous => clashes_continuous(w, *v),
+            Law::Alone => clashes_alone(w, *v),
+        };
+        if clashes {
+            return true;
+        }
+    }
+    false
+}
+
+/// The rule for one write.
+fn stands(law: Law, writes: &[Write], w: Write) -> Checked<()>
+    ensures { result ≡ laws.stands law (map write_in writes.now) (write_in w.entry) }
+{
+    let is_broken = has_clash(law, writes, w);
+    match law {
+        Law::Continuous => rule(20, w.at, is_broken),
+        Law::Alone => rule(22, w.at, is_broken),
+    }
+}
+
+/// The rule for each write.
+pub(crate) fn all_stand(law: Law, writes: &[Write]) -> Checked<()>
+    ensures { result ≡ laws.all_stand law (map write_in writes.now) }
+{
+    let mut guards = Checked::Good(());
+    for w in writes {
+        guards = and_guard(guards, stands(law, writes, *w));
+    }
+    guards
+}
+
+/// Whether an object is written continuously.
+fn is_written_continuously(object: &[Text], writes: &[Write]) -> bool
+    ensures { result ≡ writers.some (laws.continues object.now) (map write_in writes.now) }
+{
+    for v in writes {
+        if is_continuous(v.writer) && same_path(v.object, object) {
+            return true;
+        }
+    }
+    false
+}
+
+/// No variable with an initializer is written continuously.
+pub(crate) fn none_initialized(writes: &[Write], variables: &[Initialized]) -> Checked<()>
+    ensures { result ≡ all (writers.not_initialized (map write_in writes.now)) (map initialized_in variables.now) }
+{
+    let mut guards = Checked::Good(());
+    for one in variables {
+        let is_broken = is_written_continuously(one.object.as_slice(), writes);
+        guards = and_guard(guards, rule(23, one.at, is_broken));
+    }
+    guards
+}
