@@ -3,8 +3,6 @@
 //! - `formals` has the arguments and the object of a method, by the variables that they are; `results` the result of a function.
 //! - `bodies` has where the statements of a subroutine stand, `own_names` the name of a function inside it.
 //!
-//! `with_last` of `own_names` is not written yet, and answers that memory ran out: so does `function_scope`.
-//!
 //! Each function answers what its definition in `sv_names` gives, or that memory ran out.
 #![tactic(auto)]
 

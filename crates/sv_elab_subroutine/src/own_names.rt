@@ -1,12 +1,12 @@
 // What the statements of a function see: its own name, which stands for its result variable (IEEE 1800-2017, 13.4.1).
-ghost use Rattle.std.specs.Prelude.{◌≡◌, ◌++◌, ◌∷◌, [], IfOk};
+ghost use Rattle.std.specs.Prelude.{◌≡◌, IfOk};
 ghost use Rattle.sv_names.specs.Declarations as declarations;
 ghost use Rattle.sv_names.specs.Subroutines as subroutines;
 ghost use Rattle.sv_elab_subroutine.specs.Bodies as words;
 
 use std::alloc::Global;
 use sv_names::{
-    Callee, Checked, Declarations, Kind, Known, Named, Path, ResultVariable, Scope, Ty, copy_path,
+    Callee, Checked, Kind, Known, Named, Path, ResultVariable, Scope, Ty, copy_path,
 };
 use sv_tree::Name;
 use sv_value::{NoMemory, Text};
@@ -99,13 +99,6 @@ fn itself(
     })
 }
 
-/// Declarations, and one more behind them. Not written yet: memory is wanting.
-fn with_last(_known: Declarations, _last: Known) -> Result<Declarations, NoMemory>
-    ensures { IfOk result (λ ks. ks ≡ _known ++ _last ∷ []) }
-{
-    Err(NoMemory::Memory)
-}
-
 /// What the statements of a function with a result see: what its scope declares, and then its own name.
 pub fn function_scope(
     alloc: Global,
@@ -122,7 +115,7 @@ pub fn function_scope(
         known,
     } = scope;
     let last = itself(alloc, path.as_slice(), is_automatic, callee)?;
-    let known = with_last(known, last)?;
+    let known = known.with_last(alloc, last)?;
     Ok(Scope {
         path,
         class,

@@ -1,5 +1,5 @@
 // The declarations of a scope (IEEE 1800-2017, 23.9).
-ghost use Rattle.std.specs.Prelude.{◌≡◌, IfOk, option_map};
+ghost use Rattle.std.specs.Prelude.{◌≡◌, ◌++◌, ◌∷◌, [], IfOk, option_map};
 ghost use Rattle.std.specs.Vec.Iter.{into_iter_items};
 ghost use Rattle.sv_names.specs.Index as changed;
 ghost use Rattle.sv_names.specs.Index.{places_from, or_old, first_value, more_values};
@@ -59,6 +59,19 @@ impl Declarations {
             index,
             places,
         })
+    }
+
+    /// The same declarations, and one more behind them.
+    pub fn with_last(self, alloc: Global, last: Known) -> Result<Declarations, NoMemory>
+        ensures { IfOk result (λ d. d ≡ self ++ last ∷ []) }
+    {
+        let Declarations {
+            mut items,
+            index: _,
+            places: _,
+        } = self;
+        items.push(last)?;
+        Declarations::new(alloc, items)
     }
 
     /// The declarations as a slice.
