@@ -109,7 +109,12 @@ pub fn expr(alloc: Global, e: &Expr, around: &Around) -> Result<Typed, Refusal>
 
 /// A name with what follows it, as a value.
 #[cycle(elaborate)]
-pub fn named(alloc: Global, root: &Root, suffixes: &[Suffix], around: &Around) -> Result<Typed, Refusal>
+pub fn named(
+    alloc: Global,
+    root: &Root,
+    suffixes: &[Suffix],
+    around: &Around,
+) -> Result<Typed, Refusal>
     ensures { Gives result (name_as_value (around_in around.now) root.now (view.suffix_list suffixes.now)) }
 {
     let place = place_of_root(root);

@@ -320,7 +320,9 @@ impl<'a> Thing<'a> {
                 is_direct,
                 at,
             } => {
-                let value = bare_subroutine::<C>(alloc, around, place, callee, object, is_direct, at);
+                let value = bare_subroutine::<C>(
+                    alloc, around, place, callee, object, is_direct, at,
+                );
                 member_of_value(alloc, around, name, value)
             }
             Thing::Method {

@@ -5,9 +5,7 @@ ghost use Rattle.sv_names.specs.Subroutines as subroutines;
 ghost use Rattle.sv_elab_subroutine.specs.Bodies as words;
 
 use std::alloc::Global;
-use sv_names::{
-    Callee, Checked, Kind, Known, Named, Path, ResultVariable, Scope, Ty, copy_path,
-};
+use sv_names::{Callee, Checked, Kind, Known, Named, Path, ResultVariable, Scope, Ty, copy_path};
 use sv_tree::Name;
 use sv_value::{NoMemory, Text};
 

@@ -35,7 +35,12 @@ impl Calls for AllCalls {
         method_called(alloc, around, at, is_value, method, object, args)
     }
 
-    fn as_value(alloc: Global, around: &Around, at: Place, called: Called) -> Result<Typed, Refusal> {
+    fn as_value(
+        alloc: Global,
+        around: &Around,
+        at: Place,
+        called: Called,
+    ) -> Result<Typed, Refusal> {
         as_value(alloc, around, at, called)
     }
 }
