@@ -109,7 +109,7 @@ pub fn update_later(
 fn update_job(alloc: Global, object: ObjId, value: Bits) -> Result<Job, NoMemory>
     ensures { IfOk result (λ j. j ≡ update_job object (val.Bits value)) }
 {
-    let mut updates = Seq::new(alloc);
+    let mut updates = Vec::with_capacity(alloc, 1)?;
     updates.push(Update {
         target: ObjectTarget {
             object,
@@ -118,7 +118,7 @@ fn update_job(alloc: Global, object: ObjId, value: Bits) -> Result<Job, NoMemory
         },
         value: Val::Bits(value),
     })?;
-    Ok(Job::Update(updates))
+    Ok(Job::Update(Seq::from_vec(updates)))
 }
 
 /// Does a job: the update of one object.

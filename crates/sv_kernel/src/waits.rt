@@ -26,7 +26,7 @@ pub fn wait_at(machine: &mut Machine, design: &Design, process: ProcessId, at: F
     ensures frame { SameMoment machine.old machine.new }
 {
     let _ = design;
-    machine.waits[process.0 as usize] = Some(at);
+    machine.waits.wait(process.0 as usize, at);
     machine.running = None;
 }
 

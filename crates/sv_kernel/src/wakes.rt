@@ -16,6 +16,7 @@ ghost use Rattle.sv_kernel.specs.Machine.{EachInOnePlace};
 use crate::expressions::{Change, value};
 use crate::frames::Frame;
 use crate::sides::front_region;
+use crate::waiting::Waiting;
 use sv_flat::{Design, Edge, Form, Watch};
 use sv_sched::Regions;
 use sv_value::{Bits, NoMemory, ProcessId, Side, Sym};
@@ -123,7 +124,7 @@ fn wake_one(
     values: &[Bits],
     change: &Option<Change>,
     number: usize,
-    waits: &mut Vec<Option<Frame>>,
+    waits: &mut Waiting,
     regions: &mut Regions,
 ) -> Result<(), NoMemory>
     requires built { IsBuilt design.now }
@@ -136,23 +137,23 @@ fn wake_one(
     ensures { OnOk result ((s : Side) → slice_get (sides design.now) number ≡ Some s
         → TriedOne design.now values.now change.now number s waits.old.items regions.old waits.new.items regions.new) }
 {
-    let Some(at) = waits[number] else {
+    let Some(at) = waits.get(number) else {
         return Ok(());
     };
     if wakes(design, at, values, change) {
         let side = design.processes()[number].side;
-        waits[number] = None;
+        waits.wake(number);
         regions.ready(front_region(side), ProcessId(number as u32))?;
     }
     Ok(())
 }
 
-/// Lets those go on whom a change wakes, by number.
-pub fn wake_all(
+/// Tries all processes, by number.
+fn try_all(
     design: &Design,
     values: &[Bits],
     change: &Option<Change>,
-    waits: &mut Vec<Option<Frame>>,
+    waits: &mut Waiting,
     regions: &mut Regions,
 ) -> Result<(), NoMemory>
     requires built { IsBuilt design.now }
@@ -169,4 +170,28 @@ pub fn wake_all(
         wake_one(design, values, change, number, waits, regions)?;
     }
     Ok(())
+}
+
+/// Lets those go on whom a change wakes, by number. Where none waits, none is tried.
+#[tactic(auto, using(crate::proofs::CountLemmas::waits_left, crate::proofs::CountLemmas::regions_left))]
+pub fn wake_all(
+    design: &Design,
+    values: &[Bits],
+    change: &Option<Change>,
+    waits: &mut Waiting,
+    regions: &mut Regions,
+) -> Result<(), NoMemory>
+    requires built { IsBuilt design.now }
+    requires each { length values.now ≡ length design.now.objects }
+    requires count { length waits.old.items ≡ length design.now.processes }
+    requires weights { EachInOnePlace design.now regions.old waits.old.items }
+    ensures waits { OnOk result ((old new : View) → Sees old values.now None → Sees new values.now change.now
+        → waits.new.items ≡ waits_after (woken_at design.now old new) waits.old.items) }
+    ensures regions { OnOk result ((old new : View) → Sees old values.now None → Sees new values.now change.now
+        → regions.new ≡ ready_after (woken_at design.now old new) 0 waits.old.items (sides design.now) regions.old) }
+{
+    if waits.none_waits() {
+        return Ok(());
+    }
+    try_all(design, values, change, waits, regions)
 }

@@ -1,5 +1,5 @@
 use Rattle.sv_kernel.specs.Wakes.{Tried}
-use Rattle.sv_kernel.proofs.wakes.wake_all.Given as goal
+use Rattle.sv_kernel.proofs.wakes.try_all.Given as goal
 
 -- the first so many are tried
 abbrev pub invariant-loop-number : goal.invariant-loop-number

@@ -4,7 +4,7 @@ use Rattle.sv_flat.specs.Sound.{side_of_process}
 use Rattle.sv_flat.proofs.Weights.{there}
 use Rattle.sv_kernel.specs.Wakes.{woken_at, waits_until, ready_until, sides, Tried}
 use Rattle.sv_kernel.proofs.WaitLemmas.{tried_absent, tried_few, tried_more, until_all, ready_all}
-use Rattle.sv_kernel.proofs.wakes.wake_all.Goals as goal
+use Rattle.sv_kernel.proofs.wakes.try_all.Goals as goal
 
 pub wake_one-requires-clause-absent : goal.wake_one-requires-clause-absent
 wake_one-requires-clause-absent c =
