@@ -1,4 +1,5 @@
 -- Texts that differ in a word or two from others.
+mod Arrays
 mod Declarations
 mod Members
 mod Classes
