@@ -1,3 +1,4 @@
 pub mod DrivenLaws
 pub mod ProcessLaws
 pub mod CountLaws
+pub mod WatchedLaws

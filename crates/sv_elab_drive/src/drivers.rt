@@ -24,7 +24,7 @@ fn net_driven(spot: &Spot) -> Option<&[Text]>
 
 /// How often a path stands in a list.
 #[tactic(auto, using(crate::proofs::CountLaws::other_path, crate::proofs::CountLaws::same_paths))]
-fn times_in(path: &[Text], list: &[Path]) -> Result<u32, NoMemory>
+pub fn times_in(path: &[Text], list: &[Path]) -> Result<u32, NoMemory>
     ensures { IfOk result (λ n. n ≡ clockings.times_in path.now list.now) }
 {
     match list {

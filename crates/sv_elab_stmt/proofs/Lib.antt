@@ -1,4 +1,4 @@
 pub mod ForLaws
-pub mod LabelLaws
 pub mod ListLaws
 pub mod Sizes
+pub mod StarLaws

@@ -2,29 +2,18 @@
 //!
 //! - `statement` is the table: it goes through the trees of statements; `single` has those that hold no other one. What is made of the parts
 //!   of a statement is in `sv_elab_flow`.
-//! - `delays` and `events` have what stands before a statement and waits; `calls` and `leaves` (`return`, `->`) statements of one form. What is
-//!   written is in `sv_elab_write`.
-//! - `heads` with `labels` has what a `case` compares, `foreach` the array that is walked, `fors` the last part of a `for`; `values` conditions,
-//!   `rules` where a statement may wait.
+//! - `delays` and `events` have what stands before a statement and waits, `foreach` the array that is walked, `fors` the last part of a `for`.
+//! - Conditions, `case` and `return` are in `sv_elab_control`, calls in `sv_elab_task`, what is written in `sv_elab_write`, scopes in
+//!   `sv_elab_block`, and their variables in `sv_elab_variable`.
 //!
-//! Each function answers what its definition in `sv_names` gives, or the first rule that is broken, or that memory ran out. These are not
-//! written yet, and only answer that memory ran out: `call` and `ignored_call` of `calls`; `control`, `named_control` and `after_star` of
-//! `events`; and all of `settled`, which needs what declarations stand for. No public function is one of them alone, but whatever has an event
-//! control, a scope or a call as a statement meets one.
+//! Each function answers what its definition in `sv_names` gives, or the first rule that is broken, or that memory ran out.
 #![tactic(auto)]
 
-mod calls;
 mod delays;
 mod events;
 mod foreach;
 mod fors;
-mod heads;
-mod labels;
-mod leaves;
-mod rules;
-mod settled;
 mod single;
 mod statement;
-mod values;
 
 pub use statement::{stmt, stmts};

@@ -7,11 +7,10 @@ ghost use Rattle.sv_names.specs.Emits.{Emits};
 ghost use Rattle.sv_names.specs.Statements as statements;
 ghost use Rattle.sv_names.specs.Views.{around_in};
 
-use crate::calls::{call, ignored_call};
-use crate::leaves::{return_form, trigger};
-use crate::rules::may_wait_here;
 use std::alloc::Global;
+use sv_elab_control::{may_wait_here, return_form, trigger};
 use sv_elab_flow::{guarded_code, plain_code, plain_guarded, single};
+use sv_elab_task::{call, ignored_call};
 use sv_elab_value::rule;
 use sv_elab_write::{assigned, later, operated, stepped, timed};
 use sv_flat::{Form, Stmt as FlatStmt};

@@ -22,14 +22,12 @@ use crate::delays::{cycles, delay};
 use crate::events::at_event;
 use crate::foreach::walked_array;
 use crate::fors::step_routine;
-use crate::heads::case_heads;
-use crate::rules::may_wait_here;
-use crate::settled::{
-    block_scope, block_stands, declarations, for_scope, for_stands, foreach_scope, foreach_stands,
-};
 use crate::single::single_statement;
-use crate::values::condition;
 use std::alloc::Global;
+use sv_elab_block::{
+    block_scope, block_stands, for_scope, for_stands, foreach_scope, foreach_stands,
+};
+use sv_elab_control::{case_heads, condition, may_wait_here};
 use sv_elab_flow::{
     after, after_item, and_routine, block, case_made, do_loop, do_turn, enclosed, end_label,
     first_routine, for_loop, foreach_loop, forever, fork, fork_parts, fork_stands, guarded_code,
@@ -37,6 +35,7 @@ use sv_elab_flow::{
     repeat_loop, routine, then, two_routines, wait_form, while_loop,
 };
 use sv_elab_object::locals_of;
+use sv_elab_variable::declarations;
 use sv_elab_write::{assign_value, first_value};
 use sv_flat::{Declared, Form, Object, Routine, Stmt as FlatStmt};
 use sv_names::{Around, Checked, Hoisted, Refusal, Returns, Scope, Typed, answer, both};
@@ -248,8 +247,9 @@ fn waiting_statement(
             guarded_code(then(alloc, s, control, body), may_wait_here(around, d.at))
         }
         Body::On(event, x) => {
+            let first = routines.as_slice().len();
             let body = stmt(alloc, x, around, routines, objects);
-            let waits = at_event(alloc, s, event, around, body);
+            let waits = at_event(alloc, s, event, around, first, routines, body);
             guarded_code(waits, may_wait_here(around, s.at))
         }
         Body::Cycles {

@@ -1,2 +1,3 @@
+mod CallLaws
 mod RowLaws
 mod TaskLaws

@@ -1,5 +1,5 @@
 -- What a call that stands as a statement calls, by its last suffix (IEEE 1800-2017, 8, 13 and 15).
-use Rattle.std.specs.Prelude.{Bool, [], Option, Some, None}
+use Rattle.std.specs.Prelude.{◌≡◌, Bool, [], Option, Some, None}
 use Rattle.sv_value.specs.declared.place.Place.{Place}
 use Rattle.sv_flat.specs.declared.stmt.Form.{Form}
 use Rattle.sv_tree.specs.declared.expr.Root.{Root}
@@ -37,6 +37,19 @@ bare_behind ar pe v th ss = things ar pe th ss ▷ called_bare ar pe v
 abbrev pub call_behind : Around → Place → (is_value : Bool) → Checked Thing → tree.Suffixes → tree.Exprs → Checked Called
 call_behind ar pe v th ss es = last_call ar pe v (things ar pe th ss) es
 
+-- suffixes that end with a call, what stands before it, and its arguments
+abbrev pub EndsWithCall : tree.Suffixes → (front : tree.Suffixes) → tree.Exprs → Type 0
+EndsWithCall ss front es =
+    (ar : Around) (pe : Place) (v : Bool) (th : Checked Thing) → called_in ar pe v th ss ≡ call_behind ar pe v th front es
+
+-- suffixes that end otherwise
+abbrev pub EndsBare : tree.Suffixes → Type 0
+EndsBare ss = (ar : Around) (pe : Place) (v : Bool) (th : Checked Thing) → called_in ar pe v th ss ≡ bare_behind ar pe v th ss
+
+-- what a name with what follows it calls
+abbrev pub called_of : Around → (is_value : Bool) → Root → tree.Suffixes → Checked Called
+called_of ar v r s = called_in ar (place_of_root r) v (root_thing ar r) s
+
 -- a call as a statement
 abbrev pub call_once : (is_value : Bool) → Root → tree.Suffixes → Around → Checked (Hoisted Form)
-call_once v r s ar = given call_statement (called_in ar (place_of_root r) v (root_thing ar r) s)
+call_once v r s ar = given call_statement (called_of ar v r s)

@@ -210,7 +210,7 @@ block_body-returns t c =
     let place : around_in c.inside-inner.result ≡ blocks.inside c.args.scope.now (around_in c.args.around.now) = search rules in
     let at_place : Around → Type 0 = λ i. Emits rs rs' os os' c.in_sequence.result (lists.block_body i ds xs) in
     let made : at_place (around_in c.inside-inner.result) =
-    c.in_sequence.ensures rs rs rs' os c.declarations-first.new._objects os' _ _ (c.declarations-first.ensures rs) c.stmts-rest.ensures in
+    c.in_sequence.ensures rs rs rs' os c.declarations-first.new.objects os' _ _ (c.declarations-first.ensures rs) c.stmts-rest.ensures in
     subst at_place place made
 
 pub fork_in-returns : goal.fork_in-returns
@@ -238,7 +238,7 @@ fork_body-returns t c =
     let rs' = c.first_routine-initializers.new.routines in
     let rs'' = c.children-rest.new.routines in
     let os = c.args.objects.now in
-    let os' = c.declarations-first.new._objects in
+    let os' = c.declarations-first.new.objects in
     let os'' = c.children-rest.new.objects in
     let at = place_of c.args.s.now in
     let ds = map view.decl c.args.decls.now in

@@ -1,0 +1,4 @@
+mod PathLaws
+mod ScopeLaws
+mod NameLaws
+mod StandLaws

@@ -1,0 +1,6 @@
+mod BesideLaws
+mod BlockLaws
+mod NameLaws
+mod SampleLaws
+mod SignalLaws
+mod SkewLaws

@@ -1,0 +1,4 @@
+mod NameLaws
+mod FormalLaws
+mod StandLaws
+mod MeaningLaws

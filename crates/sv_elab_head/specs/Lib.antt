@@ -1,0 +1,4 @@
+pub mod Heads
+pub mod Formals
+pub mod Headings
+pub mod Standing

@@ -1,0 +1,4 @@
+pub mod ReadLaws
+pub mod OutsideLaws
+pub mod StatementLaws
+pub mod InnerLaws

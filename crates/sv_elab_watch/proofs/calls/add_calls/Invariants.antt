@@ -1,0 +1,11 @@
+use Rattle.std.proofs.Common.{◌≡◌, ◌++◌, length}
+use Rattle.std.specs.Prelude.{flat_map}
+use Rattle.sv_flat.specs.Names.{call_exprs}
+use Rattle.sv_names.specs.Watched.{operands}
+use Rattle.sv_elab_watch.proofs.calls.add_calls.Given as goal
+
+abbrev pub invariant-loop-left : goal.invariant-loop-left
+invariant-loop-left l = l.list ++ flat_map (λ c. flat_map (operands l.depth) (call_exprs c.form)) l.left ≡ l.initial.list ++ flat_map (λ c. flat_map (operands l.depth) (call_exprs c.form)) l.calls
+
+abbrev pub decreases-loop-left : goal.decreases-loop-left
+decreases-loop-left l = length l.left

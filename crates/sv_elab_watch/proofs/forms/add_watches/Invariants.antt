@@ -1,0 +1,11 @@
+use Rattle.std.proofs.Common.{◌≡◌, ◌++◌, length}
+use Rattle.std.specs.Prelude.{flat_map}
+use Rattle.sv_flat.specs.Names.{watch_exprs}
+use Rattle.sv_names.specs.Watched.{operands}
+use Rattle.sv_elab_watch.proofs.forms.add_watches.Given as goal
+
+abbrev pub invariant-loop-left : goal.invariant-loop-left
+invariant-loop-left l = l.list ++ flat_map (operands l.depth) (flat_map watch_exprs l.left) ≡ l.initial.list ++ flat_map (operands l.depth) (flat_map watch_exprs l.watches)
+
+abbrev pub decreases-loop-left : goal.decreases-loop-left
+decreases-loop-left l = length l.left
