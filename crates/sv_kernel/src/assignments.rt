@@ -26,7 +26,6 @@ use crate::machine::Machine;
 use crate::sides::updates_region;
 use crate::waits::moment_after;
 use crate::wakes::wake_all;
-use std::alloc::Global;
 use sv_flat::{Base, DataType, Design, Expr, Lvalue};
 use sv_value::{
     Bits, Due, FaultKind, Job, NoMemory, ObjId, ObjectTarget, Place, Plain, ProcessId, RunFault,
@@ -84,7 +83,8 @@ pub fn update_later(
     };
     match moment {
         Some(moment) => {
-            let job = update_job(machine.alloc, object_of(&target.base), bits)?;
+            let updates = machine.spare.take(machine.alloc)?;
+            let job = update_job(updates, object_of(&target.base), bits)?;
             if moment == machine.time {
                 machine.regions.job(updates_region(side), job)?;
             } else {
@@ -105,11 +105,12 @@ pub fn update_later(
     Ok(())
 }
 
-/// The update of an object.
-fn update_job(alloc: Global, object: ObjId, value: Bits) -> Result<Job, NoMemory>
+/// The update of an object, in a list that is empty.
+fn update_job(updates: Vec<Update>, object: ObjId, value: Bits) -> Result<Job, NoMemory>
+    requires { updates.items ≡ [] }
     ensures { IfOk result (λ j. j ≡ update_job object (val.Bits value)) }
 {
-    let mut updates = Vec::with_capacity(alloc, 1)?;
+    let mut updates = updates;
     updates.push(Update {
         target: ObjectTarget {
             object,

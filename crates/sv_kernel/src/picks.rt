@@ -64,6 +64,7 @@ pub fn take_pick(
         }
         Picked::Job(job) => {
             do_job(machine, design, &job)?;
+            machine.spare.give(job);
             Ok(())
         }
     }
