@@ -4,7 +4,8 @@
     tools/measure_schedule.py [RUNS]
 
 - wake-ups: 200 processes that wake after 1 to 1,000 ticks each and write a variable of their own;
-- updates: so many nonblocking updates in each of four time slots;
+- updates: so many nonblocking updates in each of ten time slots;
+- large_slots: so many in each of four, the most that a call makes steps for;
 - picks: so many processes that are ready at once in each of two time slots, of which `--active` picks the last each time (vvp has no picks).
 
 Prints the processor seconds of the best of RUNS calls (5 where no number is given). Each size is twice the one before. It is no part of the gate.
@@ -28,12 +29,20 @@ def wake_ups(count):
     return f'{variables}\n{processes}', 5 * count, []
 
 
-def updates(count):
-    """The same of four slots with so many updates each."""
+def slots_of(slots, count):
+    """The same of so many slots with so many updates each."""
     variables = '\n'.join(f'  int v{i};' for i in range(BATCH))
     assignments = ' '.join(f'v{i} <= n;' for i in range(BATCH))
     turn = f'{assignments} n = n + 1; if (n == {count // BATCH}) begin n = 0; #1 n = 0; end'
-    return f'{variables}\n  int n;\n  initial begin n = 0; forever begin {turn} end end', 4 * (2 * count + 4 * count // BATCH), []
+    return f'{variables}\n  int n;\n  initial begin n = 0; forever begin {turn} end end', slots * (2 * count + 4 * count // BATCH), []
+
+
+def updates(count):
+    return slots_of(10, count)
+
+
+def large_slots(count):
+    return slots_of(4, count)
 
 
 def picks(count):
@@ -42,7 +51,8 @@ def picks(count):
     return '  logic x;\n' + '  initial forever #1 if (x) x = 1;\n' * count, 8 * count, ['--active', f'{last},{last}']
 
 
-MEASURED = [(wake_ups, [100_000, 200_000, 400_000]), (updates, [250_000, 500_000, 1_000_000]), (picks, [2_500, 5_000, 10_000])]
+MEASURED = [(wake_ups, [100_000, 200_000, 400_000]), (updates, [100_000, 200_000, 400_000]),
+            (large_slots, [250_000, 500_000, 1_000_000]), (picks, [2_500, 5_000, 10_000])]
 
 
 def best(words, runs):
