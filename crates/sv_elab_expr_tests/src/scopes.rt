@@ -2,8 +2,8 @@
 use std::alloc::Global;
 use sv_flat::Scale;
 use sv_names::{
-    Around, Checked, Declarations, Dollar, Element, Kind, Known, Named, Numbers, Returns, Scope,
-    Ty, selectable,
+    Around, Checked, Declarations, Dollar, Element, Kind, Known, Named, Numbers, PathIndex,
+    Returns, Scope, Ty, selectable,
 };
 use sv_tree::Name;
 use sv_value::{Excerpt, Integral, NoMemory, Place, Seq};
@@ -57,15 +57,21 @@ pub fn scope(alloc: Global) -> Result<Scope, NoMemory> {
     })
 }
 
+/// No path at all.
+fn no_paths(alloc: Global) -> Result<PathIndex, NoMemory> {
+    PathIndex::new(alloc, Seq::new(alloc))
+}
+
 /// No part of a design has a number.
-pub fn no_numbers(alloc: Global) -> Numbers {
-    Numbers {
-        objects: Seq::new(alloc),
-        classes: Seq::new(alloc),
-        subroutines: Seq::new(alloc),
-        clockings: Seq::new(alloc),
-        programs: Seq::new(alloc),
-    }
+pub fn no_numbers(alloc: Global) -> Result<Numbers, NoMemory> {
+    Ok(Numbers {
+        objects: no_paths(alloc)?,
+        classes: no_paths(alloc)?,
+        lines: Seq::new(alloc),
+        subroutines: no_paths(alloc)?,
+        clockings: no_paths(alloc)?,
+        programs: no_paths(alloc)?,
+    })
 }
 
 /// In an `initial` procedure of a module whose time unit is 1 ns.

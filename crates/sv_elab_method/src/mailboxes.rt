@@ -5,7 +5,7 @@ ghost use Rattle.sv_names.specs.Arguments as arguments;
 ghost use Rattle.sv_names.specs.Calls as calls;
 ghost use Rattle.sv_names.specs.Checked.{◌▷◌, given};
 ghost use Rattle.sv_names.specs.Given.{Gives};
-ghost use Rattle.sv_names.specs.Views.{around_in, derived_at};
+ghost use Rattle.sv_names.specs.Views.{around_in};
 ghost use Rattle.sv_elab_method.specs.Steps as steps;
 
 use crate::given::{operator, type_given};
@@ -13,10 +13,8 @@ use std::alloc::Global;
 use sv_elab_select::{Spot, lvalues};
 use sv_elab_value::{code_of, exactly, expr_of, one_item, paired};
 use sv_flat::{CallForm, Expr, ExprForm};
-use sv_names::{
-    Arg, Around, Called, Hoisted, NumberedClass, Outcome, Refusal, Ty, Typed, int_type, same_path,
-};
-use sv_value::{ClassId, MessageType, Place, Seq, Text, Wanted};
+use sv_names::{Arg, Around, Called, Hoisted, Outcome, Refusal, Ty, Typed, int_type};
+use sv_value::{MessageType, Place, Seq, Wanted};
 
 /// E16, E42: what a message can be.
 fn is_message(ty: &Ty) -> bool
@@ -151,35 +149,6 @@ pub(crate) fn put(
 
 // ---- `get`, `peek`, `try_get` and `try_peek`
 
-/// The same numbers of classes, in memory of their own.
-fn copy_numbers(alloc: Global, classes: &[ClassId]) -> Result<Seq<ClassId>, Refusal>
-    ensures ok { IfOk result (λ ks. ks ≡ classes.now) }
-    ensures err { IfErr result (λ e. e ≡ Memory) }
-{
-    let mut copy = Seq::new(alloc);
-    for class in classes {
-        copy.push(*class)?;
-    }
-    Ok(copy)
-}
-
-/// The numbers of a class and of all that are derived from it.
-fn derived(
-    alloc: Global,
-    class: &[Text],
-    classes: &[NumberedClass],
-) -> Result<Seq<ClassId>, Refusal>
-    ensures ok { IfOk result (λ ks. ks ≡ derived_at class.now classes.now) }
-    ensures err { IfErr result (λ e. e ≡ Memory) }
-{
-    for other in classes {
-        if same_path(class, other.path.as_slice()) {
-            return copy_numbers(alloc, other.derived.as_slice());
-        }
-    }
-    Ok(Seq::new(alloc))
-}
-
 /// The messages that a variable takes.
 fn wanted_of(alloc: Global, around: &Around, ty: &Ty) -> Result<Wanted, Refusal>
     ensures ok { IfOk result (λ w. w ≡ calls.wanted_of (around_in around.now) ty.now) }
@@ -188,7 +157,7 @@ fn wanted_of(alloc: Global, around: &Around, ty: &Ty) -> Result<Wanted, Refusal>
     match ty {
         Ty::Text => Ok(Wanted::Text),
         Ty::Class(class) => {
-            let numbers = derived(alloc, class.as_slice(), around.numbers.classes.as_slice())?;
+            let numbers = around.numbers.derived(alloc, class.as_slice())?;
             Ok(Wanted::Classes(numbers))
         }
         _ => Ok(Wanted::Integral(ty.integral())),

@@ -1,11 +1,12 @@
 -- The flat design of a list of units, or the first broken rule.
-use Rattle.std.specs.Prelude.{ℕ, suc, ◌+◌, Bool, false, not, ◌&&◌, ◌||◌, List, [], ◌∷◌, ◌++◌, length, Option, Some, None, if◌then◌else◌, ◌==◌, map, flat_map, filter, nat_lt, slice_get}
+use Rattle.std.specs.Prelude.{ℕ, suc, ◌+◌, Bool, false, not, ◌&&◌, ◌||◌, List, [], ◌∷◌, ◌++◌, length, Option, Some, None, if◌then◌else◌, ◌==◌, ◌-◌, ◌^◌, min, drop, replicate, map, flat_map, filter, nat_lt, slice_get}
 use Rattle.sv_value.specs.declared.number.ObjId.{ObjId}
 use Rattle.sv_value.specs.declared.number.ClassId.{ClassId}
 use Rattle.sv_value.specs.declared.number.RoutineId.{RoutineId}
 use Rattle.sv_flat.specs.declared.design.Scale.{Scale}
 use Rattle.sv_flat.specs.declared.design.Parts.{Parts}
 use Rattle.sv_flat.specs.declared.design.Instance.{Instance}
+use Rattle.sv_flat.specs.declared.class.Class.{Class}
 use Rattle.sv_flat.specs.declared.class.Routine.{Routine}
 use Rattle.sv_flat.specs.declared.clocking.Clocking.{Clocking}
 use Rattle.sv_flat.specs.declared.object.Object.{Object}
@@ -29,14 +30,13 @@ use Rattle.sv_names.specs.Checked.{◌▷◌, given, rule, fine, ◌where_also�
 use Rattle.sv_names.specs.Types.{Path, Numbers, same_path, position_of}
 use Rattle.sv_names.specs.Named.{Around, is_derived}
 use Rattle.sv_names.specs.Groups.{Group}
-use Rattle.sv_names.specs.Code.{Numbered, followed, just}
 use Rattle.sv_names.specs.Watched.{operands_of, targets_of, is_written, object_of, on_change}
 use Rattle.sv_names.specs.Subroutines.{MadeSubroutine}
 use Rattle.sv_names.specs.Clockings.{MadeClocking, times_in}
 use Rattle.sv_names.specs.Writers.{writers_stand}
 use Rattle.sv_names.specs.Sources
 use Rattle.sv_names.specs.Sources.{Met, met, met_outside, limits_stand, initialized}
-use Rattle.sv_names.specs.Instances.{Walked, Enter, roots, some_root, walked, file_group, file_around, outside}
+use Rattle.sv_names.specs.Instances.{Walked, Enter, roots, some_root, first_place, walked, file_group, file_around, outside}
 use Rattle.sv_names.specs.Connections.{Made}
 use Rattle.sv_names.specs.Items.{around_inst, walked_parts, file_parts, GivenParts}
 
@@ -61,22 +61,80 @@ scales_agree [] = fine
 scales_agree (t ∷ ts) =
     all (λ u. rule 54 u.at (nat_lt u.unit u.precision)) (t ∷ ts) where_also all (differs t) ts
 
--- ---- processes, subroutines, clocking blocks and instances
+-- ---- the parts of a design, one after another
 
--- the processes, each with the drivers of those before
-abbrev pub processes_in : List Path → List Made → Numbered (List Process)
-processes_in before [] = just []
-processes_in before (m ∷ ms) = followed (λ x xs. x ∷ xs) (m.make before) (processes_in (before ++ m.drives) ms)
+-- what stands so far of a design
+pub record SoFar : Type 0 where
+  pub objects : List Object
+  pub samples : List Object
+  pub processes : List Process
+  pub classes : List Class
+  pub subroutines : List Routine
+  -- what the statements of subroutines and processes add, behind the places of all subroutines
+  pub routines : List Routine
+  pub clockings : List Clocking
+  -- the nets that are driven, each as often as it has drivers
+  pub drives : List Path
 
--- the subroutines, with what their statements add
-abbrev pub subroutines_in : List MadeSubroutine → Numbered (List Routine)
-subroutines_in [] = just []
-subroutines_in (m ∷ ms) = followed (λ x xs. x ∷ xs) m.routine (subroutines_in ms)
+-- the place of a subroutine, which comes in its stead at the end
+abbrev pub no_routine : Routine
+no_routine = record { at = first_place; body = []; subroutine = None }
 
--- the clocking blocks, with the drivers before
-abbrev pub clockings_in : List Path → List MadeClocking → List Clocking
-clockings_in before [] = []
-clockings_in before (m ∷ ms) = m.clocking before ∷ clockings_in (before ++ m.drives) ms
+-- before all items, where so many subroutines are to come
+abbrev pub none_so_far : ℕ → SoFar
+none_so_far n =
+    record {
+      objects = [];
+      samples = [];
+      processes = [];
+      classes = [];
+      subroutines = [];
+      routines = replicate n no_routine;
+      clockings = [];
+      drives = [];
+    }
+
+-- a subroutine
+abbrev pub with_subroutine : SoFar → MadeSubroutine → SoFar
+with_subroutine s m =
+    record s {
+      subroutines = s.subroutines ++ (m.routine.make (length s.routines)).0 ∷ [];
+      routines = s.routines ++ (m.routine.make (length s.routines)).1;
+    }
+
+-- a process, with the drivers behind those before
+abbrev pub with_process : SoFar → Made → SoFar
+with_process s m =
+    record s {
+      processes = s.processes ++ ((m.make s.drives).make (length s.routines)).0 ∷ [];
+      routines = s.routines ++ ((m.make s.drives).make (length s.routines)).1;
+      drives = s.drives ++ m.drives;
+    }
+
+-- a clocking block, with the drivers behind those before
+abbrev pub with_clocking : SoFar → MadeClocking → SoFar
+with_clocking s m =
+    record s {
+      samples = s.samples ++ m.samples;
+      clockings = s.clockings ++ m.clocking s.drives ∷ [];
+      drives = s.drives ++ m.drives;
+    }
+
+-- one after another
+abbrev pub with_each : {A : Type 0} → (SoFar → A → SoFar) → SoFar → List A → SoFar
+with_each f s [] = s
+with_each f s (x ∷ xs) = with_each f (f s x) xs
+
+-- what an item gives
+abbrev pub with_given : SoFar → GivenParts → SoFar
+with_given s g =
+    with_each with_clocking
+    (with_each with_process
+    (with_each with_subroutine
+    (record s { objects = s.objects ++ g.objects; classes = s.classes ++ g.classes })
+    g.subroutines)
+    g.processes)
+    g.clockings
 
 -- each net with the number of its drivers
 abbrev pub with_drivers : List Path → Object → Object
@@ -91,18 +149,15 @@ abbrev pub instance_of : Walked → List Instance
 instance_of (Enter i) = record { path = i.path; is_program = i.unit.is_program } ∷ []
 instance_of _ = []
 
--- the subroutines come first, then what their statements add, then the routines of processes
-abbrev pub parts_from : Scale → List Instance → GivenParts → Parts
-parts_from s is g =
-    let subs : List Routine × List Routine = (subroutines_in g.subroutines).make (length g.subroutines) in
-    let procs : List Process × List Routine = (processes_in [] g.processes).make (length g.subroutines + length subs.1) in
-    let ds : List Path = flat_map (λ m. m.drives) g.processes ++ flat_map (λ m. m.drives) g.clockings in
+-- the subroutines come first, so many, then what their statements and those of processes add
+abbrev pub parts_from : Scale → List Instance → ℕ → SoFar → Parts
+parts_from s is n x =
     record {
-      objects = map (with_drivers ds) (g.objects ++ flat_map (λ m. m.samples) g.clockings);
-      processes = procs.0;
-      classes = g.classes;
-      routines = subs.0 ++ subs.1 ++ procs.1;
-      clockings = clockings_in (flat_map (λ m. m.drives) g.processes) g.clockings;
+      objects = map (with_drivers x.drives) (x.objects ++ x.samples);
+      processes = x.processes;
+      classes = x.classes;
+      routines = x.subroutines ++ drop n x.routines;
+      clockings = x.clockings;
       instances = is;
       scale = s;
     }
@@ -184,7 +239,7 @@ numbers_of is ks g =
       derived = λ p. derived_ids 0 ks p g.class_paths;
       subroutine = λ p. record { 0 = position_of 0 p (map (λ m. m.path) g.subroutines) };
       clocking = λ p. record { 0 = position_of 0 p (map (λ m. m.path) g.clockings) };
-      program = λ p. position_of 0 p (program_paths is);
+      program = λ p. min (position_of 0 p (program_paths is)) (2 ^ 32 - 1);
     }
 
 -- before there are numbers; no rule looks at them
@@ -216,7 +271,8 @@ class_infos g ws = g.classes ++ flat_map of_walked ws
 -- once without numbers, and once with those that the parts then have
 abbrev pub numbered : Scale → List Description → Group → List Walked → GivenParts → Checked Parts
 numbered s us g ws first =
-    given (λ gs. watching (parts_from s (flat_map instance_of ws) (all_parts gs)))
+    given (λ gs. watching (parts_from s (flat_map instance_of ws) (length first.subroutines)
+    (with_each with_given (none_so_far (length first.subroutines)) gs)))
     (given_parts us (file_around (numbers_of (flat_map instance_of ws) (class_infos g ws) first) s g) g ws)
 
 -- what is met on the walk, and outside units

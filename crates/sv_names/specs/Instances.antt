@@ -20,13 +20,14 @@ use Rattle.sv_tree.specs.Descriptions.{Description}
 use Rattle.sv_names.specs.declared.around.Dollar.TheVariants.{NoDollar}
 use Rattle.sv_names.specs.declared.around.Returns.TheVariants.{Outside}
 use Rattle.sv_names.specs.declared.checked.Checked.{Checked}
-use Rattle.sv_names.specs.Checked.{broken_at, fine}
+use Rattle.sv_names.specs.Checked.{broken_at, fine, ◌where_also◌}
 use Rattle.sv_names.specs.Types.{Path, Numbers, same_bytes, among}
 use Rattle.sv_names.specs.Named.{Around}
 use Rattle.sv_names.specs.Expressions.{expr}
-use Rattle.sv_names.specs.Entries.{Entry, entry, Source, Own, Given, A_variable, A_net, A_port, A_parameter, A_type, A_class, An_announcement, A_subroutine, A_clocking, Another, plain_routine, items_in, items_in_implied, declarator_entries, blocks, is_automatic_life}
+use Rattle.sv_names.specs.Entries.{Entry, entry, Source, Own, Given, A_variable, A_net, A_port, A_parameter, A_type, A_class, An_announcement, A_subroutine, A_clocking, Another, plain_routine, items_in, items_in_implied, declarator_entries, blocks, is_automatic_life, twice}
 use Rattle.sv_names.specs.Groups.{Group, Head, heads_of, settled_group, in_group}
 use Rattle.sv_names.specs.Blocks.{scopes_made}
+use Rattle.sv_names.specs.Classes.{announcements_stand, bases_stand}
 
 -- ---- ports
 
@@ -237,6 +238,10 @@ nowhere_around ns s =
 
 -- ---- the walk of the instances
 
+-- E5, E6, E33, E58: what the declarations of an instance break by their names
+abbrev pub names_stand : List Entry → List Head → Checked (Unit {0})
+names_stand es hs = twice (λ e. 5) [] es where_also announcements_stand es where_also bases_stand hs
+
 -- an instance, with its settled scope
 pub record Inst : Type 0 where
   pub path : Path
@@ -244,9 +249,9 @@ pub record Inst : Type 0 where
   pub at : Place
   -- the units that it stands in, itself among them
   pub chain : List (List ℕ)
-  pub entries : List Entry
-  pub heads : List Head
   pub group : Group
+  -- what its declarations break by their names
+  pub stands : Checked (Unit {0})
 
 -- what is met on the walk
 pub data Walked : Type 0 where
@@ -346,9 +351,8 @@ module _ (units : List Description) (files : Around) where
         unit = u;
         at = at;
         chain = (name_of u).text ∷ chain;
-        entries = es;
-        heads = hs;
         group = settled_group (around_unit u p) p es hs;
+        stands = names_stand es hs;
       }
 
   -- an instance of a unit

@@ -243,14 +243,14 @@ is_block at n = broken_at 7 at
 abbrev pub flattened : Checked (List (List Object)) → Checked (List Object)
 flattened c = joined c
 
--- what classes give
-abbrev pub classes_parts : List ClassParts → List Path → GivenParts
-classes_parts cs ps =
+-- what a class gives: its static properties, and the static variables of its methods
+abbrev pub class_given : Path → ClassParts → GivenParts
+class_given p c =
     record nothing {
-      objects = flat_map (λ c. c.objects) cs;
-      subroutines = flat_map (λ c. c.subroutines) cs;
-      classes = map (λ c. c.class) cs;
-      class_paths = ps;
+      objects = c.objects ++ flat_map (λ m. m.routine.objects) c.subroutines;
+      subroutines = c.subroutines;
+      classes = c.class ∷ [];
+      class_paths = p ∷ [];
     }
 
 -- a class
@@ -259,7 +259,7 @@ class_made ar c p = of_info (class_in ar.classes p)
   where
     of_info : Option ClassInfo → Checked GivenParts
     of_info None = Good nothing
-    of_info (Some k) = given (λ c. classes_parts (c ∷ []) (p ∷ [])) (class_parts ar k c)
+    of_info (Some k) = given (class_given p) (class_parts ar k c)
 
 -- a subroutine
 abbrev pub subroutine_made : MadeSubroutine → GivenParts
@@ -300,8 +300,7 @@ enter_parts ar i =
     given (λ os. record nothing { objects = os })
     (flattened (each (λ p. given (port_object ar p) (known_as i.group p.name)) (ports_of i.unit.element)))
     where_also known_stand i.group.scope.known
-    where_also twice (λ e. 5) [] i.entries
-    where_also announcements_stand i.entries
+    where_also i.stands
     where_also label_stands i.unit.element
     where_also at_most_one (flat_map default_words i.unit.element.items)
 
@@ -314,8 +313,7 @@ around_inst us files i = with_default (within_inst us files i)
 
 -- what is met on the walk
 abbrev pub walked_parts : List Description → Around → Walked → Checked GivenParts
-walked_parts us files (Enter i) =
-    enter_parts (around_inst us files i) i where_also bases_stand i.heads
+walked_parts us files (Enter i) = enter_parts (around_inst us files i) i
 walked_parts us files (Meet i b item) = item_parts us (after_scopes b (around_inst us files i)) i item
 walked_parts us files (Connect i c cs) =
     given (λ ms. record nothing { processes = flat_map (λ m. m) ms })
