@@ -16,4 +16,5 @@ mod fors;
 mod single;
 mod statement;
 
+pub use events::at_event;
 pub use statement::{stmt, stmts};

@@ -188,8 +188,9 @@ fn initial_given(
     }
 }
 
-/// The initializer of a static variable of a type, if it has one.
-fn initial_of(
+/// The initializer of a static variable of a type, if it has one. E16 and E17: it does not fit by type; E25: it is made anew, or needs a call;
+/// E31: `new` of a mailbox or a semaphore has too many arguments; E42: the variable is a fixed array.
+pub fn initial_of(
     alloc: Global,
     at: Place,
     ty: &Ty,
@@ -207,8 +208,7 @@ fn initial_of(
     }
 }
 
-/// The initializer of a static variable, if it has one, by what its declaration stands for. E16 and E17: it does not fit by type; E25: it is
-/// made anew, or needs a call; E31: `new` of a mailbox or a semaphore has too many arguments; E42: the variable is a fixed array.
+/// The initializer of a static variable, if it has one, by what its declaration stands for.
 #[tactic(auto, using(crate::proofs::VariableLaws::other_type))]
 pub fn opening_of(
     alloc: Global,

@@ -107,7 +107,7 @@ fn push_inner(form: &Form, ids: &mut Seq<RoutineId>) -> Result<(), NoMemory>
 }
 
 /// The routines that stand in a form, and the children of a fork.
-pub(crate) fn inner_of(alloc: Global, form: &Form) -> Result<Seq<RoutineId>, NoMemory>
+pub fn inner_of(alloc: Global, form: &Form) -> Result<Seq<RoutineId>, NoMemory>
     ensures { IfOk result (λ rs. rs ≡ routines_in form.now) }
 {
     let mut ids = Seq::new(alloc);

@@ -17,4 +17,5 @@ mod outside;
 mod statements;
 mod targets;
 
+pub use inner::inner_of;
 pub use statements::{on_changes, read_by};

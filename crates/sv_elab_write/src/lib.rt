@@ -21,4 +21,4 @@ pub use assignments::{
 };
 pub use names::value_of_name;
 pub use news::{actual_args, made, outputs_of_new};
-pub use targets::target_of;
+pub use targets::{place_of_target, target_of};

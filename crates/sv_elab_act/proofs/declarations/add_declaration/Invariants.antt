@@ -1,0 +1,15 @@
+use Rattle.std.proofs.Common.{◌≡◌, ◌++◌, map, length}
+use Rattle.std.specs.Prelude.{flat_map}
+use Rattle.sv_tree.specs.StmtView as view
+use Rattle.sv_names.specs.Writers.{declarator_touches}
+use Rattle.sv_names.specs.Views.{around_in}
+use Rattle.sv_elab_writers.specs.Views.{touch_in}
+use Rattle.sv_elab_act.proofs.declarations.add_declaration.Given as goal
+
+abbrev pub invariant-loop-left : goal.invariant-loop-left
+invariant-loop-left l =
+    map touch_in l.touches ++ flat_map (declarator_touches (around_in l.around)) (map view.declarator l.left)
+    ≡ map touch_in l.initial.touches ++ flat_map (declarator_touches (around_in l.around)) (map view.declarator l.declaration.names.items)
+
+abbrev pub decreases-loop-left : goal.decreases-loop-left
+decreases-loop-left l = length l.left

@@ -1,0 +1,5 @@
+mod PuttingLaws
+mod StaticLaws
+mod FlatLaws
+mod MethodLaws
+mod PartLaws

@@ -1,0 +1,44 @@
+-- One after another.
+use Rattle.std.proofs.Common.{List, [], map, refl, sym, subst}
+use Rattle.sv_names.specs.Subroutines.{MadeSubroutine}
+use Rattle.sv_tree.specs.UnitView.{class_item}
+use Rattle.sv_names.specs.declared.checked.Checked.{Checked}
+use Rattle.sv_names.specs.declared.checked.Checked.TheVariants.{Good}
+use Rattle.sv_names.specs.Classes.{method_of}
+use Rattle.sv_names.specs.Joined as lists
+use Rattle.sv_names.specs.Views.{around_in}
+use Rattle.sv_names.proofs.Joined.{joined_first}
+use Rattle.sv_elab_member.specs.Methods.{all_methods}
+use Rattle.sv_elab_member.specs.Putting.{Putting}
+use Rattle.sv_elab_member.proofs.PuttingLaws.{list_next, lists_all}
+use Rattle.sv_elab_member.proofs.methods.all_methods.Goals as goal
+
+pub loop-item-init : goal.loop-item-init
+loop-item-init c = (
+  Good [],
+  ([], refl, refl),
+  joined_first (all_methods (around_in c.args.around.now) c.args.class.now (map class_item c.args.items.now)),
+)
+
+pub loop-item-preserved : goal.loop-item-preserved
+loop-item-preserved c =
+    let ar = around_in c.args.around.now in
+    let k = c.args.class.now in
+    let whole = all_methods ar k (map class_item c.args.items.now) in
+    let before = c.loop-item.invariant.0 in
+    let next = method_of ar k (class_item c.item-item.result) in (
+      lists.joined before next,
+      c.and_putting-done.ensures c.args.so_far.now c.loop-item.so_far c.method_of-next.new.so_far before next c.loop-item.invariant.1
+          c.method_of-next.ensures,
+      list_next class_item (method_of ar k) c.args.items.now c.loop-item.item-index c.item-item.result before whole c.loop-item-test.true
+          (sym c.item-item.is) c.loop-item.invariant.2,
+    )
+
+pub returns : goal.returns
+returns c =
+    let ar = around_in c.args.around.now in
+    let k = c.args.class.now in
+    let whole = all_methods ar k (map class_item c.args.items.now) in
+    subst (λ (x : Checked (List MadeSubroutine)). Putting c.args.so_far.now c.loop-item.so_far c.loop-item.done x)
+    (lists_all class_item (method_of ar k) c.args.items.now c.loop-item.item-index c.loop-item.invariant.0 whole c.loop-item-test.false
+    c.loop-item.invariant.2) c.loop-item.invariant.1

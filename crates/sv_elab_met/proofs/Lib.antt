@@ -1,0 +1,4 @@
+pub mod BehindLaws
+pub mod MetLaws
+pub mod NameLaws
+pub mod TargetLaws

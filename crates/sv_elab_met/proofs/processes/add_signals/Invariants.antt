@@ -1,0 +1,11 @@
+use Rattle.std.proofs.Common.{◌≡◌, ◌++◌, map, length}
+use Rattle.sv_elab_writers.specs.Views.{touch_in}
+use Rattle.sv_elab_met.specs.Met as words
+use Rattle.sv_elab_met.proofs.processes.add_signals.Given as goal
+
+abbrev pub invariant-loop-left : goal.invariant-loop-left
+invariant-loop-left l =
+    map touch_in l.touches ++ words.all_signals l.left ≡ map touch_in l.initial.touches ++ words.all_signals l.signals
+
+abbrev pub decreases-loop-left : goal.decreases-loop-left
+decreases-loop-left l = length l.left

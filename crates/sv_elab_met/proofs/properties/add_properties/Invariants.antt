@@ -1,0 +1,13 @@
+use Rattle.std.proofs.Common.{◌≡◌, ◌++◌, map, length}
+use Rattle.sv_names.specs.Views.{around_in}
+use Rattle.sv_elab_writers.specs.Views.{touch_in}
+use Rattle.sv_elab_met.specs.Met as words
+use Rattle.sv_elab_met.proofs.properties.add_properties.Given as goal
+
+abbrev pub invariant-loop-left : goal.invariant-loop-left
+invariant-loop-left l =
+    map touch_in l.touches ++ words.properties_touches (around_in l.around) l.class l.left
+    ≡ map touch_in l.initial.touches ++ words.properties_touches (around_in l.around) l.class l.names
+
+abbrev pub decreases-loop-left : goal.decreases-loop-left
+decreases-loop-left l = length l.left

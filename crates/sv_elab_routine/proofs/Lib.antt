@@ -1,0 +1,6 @@
+pub mod ObjectLaws
+pub mod BodyLaws
+pub mod SuperLaws
+pub mod PropertyLaws
+pub mod StandLaws
+pub mod MadeLaws
