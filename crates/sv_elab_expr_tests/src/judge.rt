@@ -83,9 +83,9 @@ pub fn as_value(alloc: Global, text: &[u8]) -> Judged {
     let Some(e) = tree(alloc, text) else {
         return Judged::Unread;
     };
-    match scope(alloc) {
-        Ok(scope) => value_in(alloc, &e, &scope, &no_numbers(alloc)),
-        Err(_) => Judged::Unread,
+    match (scope(alloc), no_numbers(alloc)) {
+        (Ok(scope), Ok(numbers)) => value_in(alloc, &e, &scope, &numbers),
+        _ => Judged::Unread,
     }
 }
 
@@ -94,8 +94,8 @@ pub fn as_target(alloc: Global, text: &[u8]) -> Judged {
     let Some(e) = tree(alloc, text) else {
         return Judged::Unread;
     };
-    match scope(alloc) {
-        Ok(scope) => target_of(alloc, &e, &scope, &no_numbers(alloc)),
-        Err(_) => Judged::Unread,
+    match (scope(alloc), no_numbers(alloc)) {
+        (Ok(scope), Ok(numbers)) => target_of(alloc, &e, &scope, &numbers),
+        _ => Judged::Unread,
     }
 }

@@ -1,0 +1,30 @@
+-- Elaboration, step by step.
+use Rattle.std.proofs.Common.{◌≡◌, ◌∙◌, [], ◌∷◌, map, ap}
+use Rattle.sv_flat.specs.declared.design.Scale.{Scale}
+use Rattle.sv_names.specs.declared.around.Around as code_around
+use Rattle.sv_names.specs.declared.checked.Checked.{Checked}
+use Rattle.sv_names.specs.declared.refusal.Refusal.{Refusal}
+use Rattle.sv_names.specs.declared.refusal.Refusal.TheVariants.{Rule, Memory}
+use Rattle.sv_names.specs.Checked.{given, ◌▷◌}
+use Rattle.sv_names.specs.Given.{Fails}
+use Rattle.sv_names.specs.Groups.{Group}
+use Rattle.sv_names.specs.Instances.{nowhere_around, file_around}
+use Rattle.sv_names.specs.Types.{Numbers}
+use Rattle.sv_names.specs.Views.{around_in}
+
+-- what is seen outside units is what is seen nowhere, with the scope and the classes of the files
+pub files_seen : (ns : Numbers) (s : Scale) (g : Group) (outer seen : code_around.Around) → around_in outer ≡ nowhere_around ns s
+    → seen ≡ record outer { scopes = seen.scopes; classes = seen.classes } → map (λ x. x.now) seen.scopes.now ≡ g.scope ∷ []
+    → map (λ k. k.now) seen.classes.now ≡ g.classes → around_in seen ≡ file_around ns s g
+files_seen ns s g outer seen nowhere same scopes classes =
+    ap around_in same ∙ (λ j. record (nowhere j) { scopes = scopes j; classes = classes j })
+
+-- what breaks a rule gives nothing
+pub fails_given : {A B : Type 0} (h : A → B) (x : Checked A) (e : Refusal) → Fails e x → Fails e (given h x)
+fails_given h x (Rule n at) fails = ap (given h) fails
+fails_given h x Memory fails = tt
+
+-- what breaks a rule breaks it before what follows
+pub fails_then : {A B : Type 0} (go : A → Checked B) (x : Checked A) (e : Refusal) → Fails e x → Fails e (x ▷ go)
+fails_then go x (Rule n at) fails = ap (λ y. y ▷ go) fails
+fails_then go x Memory fails = tt

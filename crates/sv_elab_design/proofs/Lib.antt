@@ -1,0 +1,7 @@
+mod NumberLaws
+mod GivenLaws
+mod FileLaws
+mod InstanceLaws
+mod ScaleLaws
+mod MeetLaws
+mod ElaboratingLaws

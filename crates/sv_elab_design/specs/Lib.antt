@@ -1,0 +1,5 @@
+pub mod Scales
+pub mod Walks
+pub mod Collected
+pub mod Numbering
+pub mod Elaborating

@@ -1,0 +1,222 @@
+// From trees to the flat design, or to the first rule that they break (IEEE 1800-2017, 3.12 and 23.3).
+ghost use Rattle.std.specs.Prelude.{◌≡◌, ◌∷◌, [], ℕ, List, IfOk, map, option_map};
+ghost use Rattle.sv_tree.specs.UnitView.{description};
+ghost use Rattle.sv_names.specs.declared.checked.Checked.{Checked as checked};
+ghost use Rattle.sv_names.specs.Checked.{◌where_also◌};
+ghost use Rattle.sv_names.specs.Design as design;
+ghost use Rattle.sv_names.specs.Given.{Gives};
+ghost use Rattle.sv_names.specs.Instances as instances;
+ghost use Rattle.sv_names.specs.Items.{GivenParts as given_parts};
+ghost use Rattle.sv_names.specs.Views.{around_in, numbers_in};
+ghost use Rattle.sv_elab_scope.specs.Rows.{group_in};
+ghost use Rattle.sv_elab_walk.specs.Insts.{walked_in};
+ghost use Rattle.sv_elab_design.specs.Collected.{GivesParts, IsGiven};
+ghost use Rattle.sv_elab_design.specs.Elaborating as words;
+
+use crate::files::{classes_of, file_group, nowhere, scopes_of};
+use crate::finishing::parts_from;
+use crate::instances::{classes_in, instances_in, programs_in};
+use crate::meeting::all_met_stand;
+use crate::numbering::{no_numbers, numbers_of};
+use crate::scales::{scale_of, scales_agree};
+use std::alloc::Global;
+use sv_elab_comb::watching;
+use sv_elab_item::add_given;
+use sv_elab_parts::SoFar;
+use sv_elab_scope::Group;
+use sv_elab_unit::roots;
+use sv_elab_walk::{Walked, walked};
+use sv_flat::{Parts, Scale};
+use sv_names::{Around, Dollar, Numbers, Refusal, Returns, answer, first, where_also};
+use sv_tree::{Description, Timescale};
+use sv_value::{NoMemory, Place};
+
+/// E4: there is a root.
+fn some_root(alloc: Global, units: &[Description], top: Option<&[u8]>) -> Result<(), Refusal>
+    ensures { Gives result (instances.some_root (instances.roots (map description units.now) (option_map (λ x. x.now) top.entry))) }
+{
+    let all = roots(alloc, units, top)?;
+    if !all.as_slice().is_empty() {
+        return Ok(());
+    }
+    let at = Place {
+        file: 0,
+        line: 1,
+        col: 1,
+    };
+    Err(Refusal::Rule { rule: 4, at })
+}
+
+/// What all items give, where so many subroutines are to come.
+fn given_with<'f>(
+    alloc: Global,
+    units: &[Description],
+    files: &'f Around<'f>,
+    group: &Group,
+    walked: &'f [Walked],
+    places: usize,
+) -> Result<SoFar, Refusal>
+    ensures { GivesParts places result
+        (design.given_parts (map description units.now) (around_in files.now) (group_in group.now) (map walked_in walked.now)) }
+{
+    let mut so_far = SoFar::new(alloc, places)?;
+    match add_given(alloc, units, files, group, walked, &mut so_far) {
+        Ok(()) => Ok(so_far),
+        Err(e) => Err(e),
+    }
+}
+
+/// What all items give, which further rules guard.
+fn and_met(given: Result<SoFar, Refusal>, met: Result<(), Refusal>) -> Result<SoFar, Refusal>
+    ensures { (n : ℕ) (x : checked (List given_parts)) (y : checked (Unit {0})) → GivesParts n given x → Gives met y
+        → GivesParts n result (x where_also y) }
+{
+    match given {
+        Ok(so_far) => match met {
+            Ok(()) => Ok(so_far),
+            Err(f) => Err(f),
+        },
+        Err(e) => match met {
+            Ok(()) => Err(e),
+            Err(f) => Err(first(e, f)),
+        },
+    }
+}
+
+/// What all items give without numbers, and the rules on writers and limits beside it.
+fn given_first<'f>(
+    alloc: Global,
+    units: &[Description],
+    files: &'f Around<'f>,
+    group: &Group,
+    walked: &'f [Walked],
+) -> Result<SoFar, Refusal>
+    ensures { GivesParts 0 result
+        (words.given_guarded (map description units.now) (around_in files.now) (group_in group.now) (map walked_in walked.now)) }
+{
+    let given = given_with(alloc, units, files, group, walked, 0);
+    let met = all_met_stand(alloc, units, files, group, walked);
+    and_met(given, met)
+}
+
+/// The design of what was given, behind so many places.
+fn finished(
+    alloc: Global,
+    scale: Scale,
+    walked: &[Walked],
+    places: usize,
+    given: SoFar,
+) -> Result<Parts, NoMemory>
+    ensures { IfOk result (λ p. (gs : List given_parts) → IsGiven places given gs
+        → p ≡ words.finished scale (map walked_in walked.now) places gs) }
+{
+    let instances = instances_in(alloc, walked)?;
+    let parts = parts_from(alloc, scale, instances, places, given)?;
+    let watched = watching(alloc, parts)?;
+    Ok(watched)
+}
+
+/// The numbers of what was given without numbers.
+fn numbers_over(
+    alloc: Global,
+    group: &Group,
+    walked: &[Walked],
+    first: SoFar,
+) -> Result<Numbers, NoMemory>
+    ensures { IfOk result (λ n. (gs : List given_parts) → IsGiven 0 first gs
+        → numbers_in n ≡ words.numbers_over (group_in group.now) (map walked_in walked.now) gs) }
+{
+    let classes = classes_in(alloc, group, walked)?;
+    let programs = programs_in(alloc, walked)?;
+    let numbers = numbers_of(alloc, classes.as_slice(), programs, first)?;
+    Ok(numbers)
+}
+
+/// The design with the numbers that its parts have, where these were given without numbers.
+fn numbered(
+    alloc: Global,
+    units: &[Description],
+    scale: Scale,
+    group: &Group,
+    walked: &[Walked],
+    first: SoFar,
+) -> Result<Parts, Refusal>
+    ensures { (gs : List given_parts) → IsGiven 0 first gs
+        → Gives result (words.numbered scale (map description units.now) (group_in group.now) (map walked_in walked.now) gs) }
+{
+    let places = first.subroutine_paths.as_slice().len();
+    let numbers = numbers_over(alloc, group, walked, first)?;
+    let (dollar, returns) = (Dollar::NoDollar, Returns::Outside);
+    let outer = nowhere(&numbers, scale, &dollar, &returns);
+    let scopes = scopes_of(alloc, group)?;
+    let classes = classes_of(alloc, group)?;
+    let files = Around {
+        scopes: scopes.as_slice(),
+        classes: classes.as_slice(),
+        ..outer
+    };
+    match given_with(alloc, units, &files, group, &*walked, places) {
+        Ok(given) => {
+            let parts = finished(alloc, scale, walked, places, given)?;
+            Ok(parts)
+        }
+        Err(e) => Err(e),
+    }
+}
+
+/// The design of what is walked.
+fn design_over<'f>(
+    alloc: Global,
+    units: &[Description],
+    scale: Scale,
+    files: &'f Around<'f>,
+    group: &Group,
+    walked: &'f [Walked],
+) -> Result<Parts, Refusal>
+    ensures { around_in files.now ≡ instances.file_around design.no_numbers scale (group_in group.now)
+        → Gives result (design.design_over scale (map description units.now) (group_in group.now) (map walked_in walked.now)) }
+{
+    match given_first(alloc, units, files, group, walked) {
+        Ok(first) => numbered(alloc, units, scale, group, walked, first),
+        Err(e) => Err(e),
+    }
+}
+
+/// The design over the scope of the files.
+fn with_files(
+    alloc: Global,
+    units: &[Description],
+    scale: Scale,
+    top: Option<&[u8]>,
+) -> Result<Parts, Refusal>
+    ensures { Gives result (words.with_files scale (map description units.now) (option_map (λ x. x.now) top.entry)) }
+{
+    let numbers = no_numbers(alloc)?;
+    let (dollar, returns) = (Dollar::NoDollar, Returns::Outside);
+    let outer = nowhere(&numbers, scale, &dollar, &returns);
+    let group = file_group(alloc, &outer, units)?;
+    let scopes = scopes_of(alloc, &group)?;
+    let classes = classes_of(alloc, &group)?;
+    let files = Around {
+        scopes: scopes.as_slice(),
+        classes: classes.as_slice(),
+        ..outer
+    };
+    let walked = walked(alloc, units, &files, top)?;
+    design_over(alloc, units, scale, &files, &group, walked.as_slice())
+}
+
+/// The flat design of the descriptions of all files, with their time scales in the order of the text, under the unit that is named or under all that
+/// are nowhere instantiated; or the first rule that is broken, by place and then by number (E1 to E58).
+pub fn elaborate(
+    alloc: Global,
+    units: &[Description],
+    scales: &[Timescale],
+    top: Option<&[u8]>,
+) -> Result<Parts, Refusal>
+    ensures { Gives result (design.elaborated (map description units.now) scales.now (option_map (λ x. x.now) top.entry)) }
+{
+    let parts = with_files(alloc, units, scale_of(scales), top);
+    let agreed = where_also(parts, answer(scales_agree(scales)));
+    where_also(agreed, some_root(alloc, units, top))
+}

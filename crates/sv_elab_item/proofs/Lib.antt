@@ -1,0 +1,13 @@
+mod CheckedLaws
+mod CommonLaws
+mod DefaultLaws
+mod EachLaws
+mod FileLaws
+mod GivenLaws
+mod GivenListLaws
+mod ItemLaws
+mod ObjectLaws
+mod PathLaws
+mod ProcessLaws
+mod ProcedureLaws
+mod StepLaws

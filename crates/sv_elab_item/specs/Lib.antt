@@ -1,0 +1,5 @@
+pub mod Adding
+pub mod Parts
+pub mod Files
+pub mod Given
+pub mod Steps
