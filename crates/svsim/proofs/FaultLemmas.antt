@@ -1,5 +1,5 @@
 -- A text that is refused is refused for one reason, and has no design.
-use Rattle.std.proofs.Common.{ℕ, ◌≡◌, ◌≢◌, true, false, List, [], ◌∷◌, ◌++◌, Option, Some, None, Ok, Err, refl, sym, ap, subst, ◌∙◌, append_assoc}
+use Rattle.std.proofs.Common.{ℕ, ◌≡◌, ◌≢◌, List, [], ◌∷◌, ◌++◌, Option, Some, None, Ok, Err, refl, sym, ap, subst, ◌∙◌, append_assoc}
 use Rattle.sv_value.specs.declared.place.Place.{Place}
 use Rattle.sv_grammar.specs.Tokens.{Tok, blank, next}
 use Rattle.sv_grammar.specs.Language.{Lang, Reads, IsTooDeep, IsUnexpected, Open, Prefix, TooDeep, Unexpected, Out}
@@ -9,13 +9,12 @@ use Rattle.sv_grammar.proofs.Facts.{prefix_of}
 use Rattle.sv_grammar.proofs.Lists.{Meet, same, longer, shorter, meet}
 use Rattle.sv_grammar.proofs.Whole.{complete}
 use Rattle.sv_tree.specs.declared.token.Token.{Token}
-use Rattle.sv_tree.specs.declared.token.Timescale.{Timescale}
 use Rattle.sv_tree.specs.declared.token.Refused.{Refused}
 use Rattle.sv_tree.specs.Forms.{Production, Value}
 use Rattle.sv_tree.specs.Grammar.{heads, need, table, texts_of}
 use Rattle.sv_tree.specs.Lexing.{Lexes, lex_fault, scales}
 use Rattle.sv_tree.specs.Codes.{toks}
-use Rattle.sv_tree.specs.Descriptions.{Description, Module, Program, Item}
+use Rattle.sv_tree.specs.Descriptions.{Description}
 use Rattle.sv_tree.specs.UnitGrammar.{file}
 use Rattle.sv_tree.proofs.Good.{good, file_fine}
 use Rattle.sv_parse.specs.declared.fault.SyntaxKind.{SyntaxKind}
@@ -24,7 +23,10 @@ use Rattle.sv_parse_unit.specs.Files.{IsFault}
 use Rattle.sv_flat.specs.declared.design.Parts.{Parts}
 use Rattle.svsim.specs.declared.front.FrontFault.{FrontFault}
 use Rattle.svsim.specs.declared.front.FrontFault.TheVariants as front
-use Rattle.sv_form.specs.Form.{design_of, has_unit}
+use Rattle.sv_flat.specs.Built.{IsBuilt}
+use Rattle.sv_names.specs.declared.checked.Checked.{Checked}
+use Rattle.sv_names.specs.declared.checked.Checked.TheVariants.{Good, Broken}
+use Rattle.sv_names.specs.Design.{elaborated}
 use Rattle.svsim.specs.Source.{IsParsed, IsSource, IsMisspelled, Explains}
 use Rattle.sv_tree.specs.Depth.{most_depth}
 use Rattle.svsim.proofs.SourceLemmas.{one_reading}
@@ -93,12 +95,18 @@ abbrev lexical : Option (Refused × Place) → FrontFault
 lexical None = front.Memory
 lexical (Some x) = front.Lexical x.1 x.0
 
--- what has a design has a module
-has_module : (ts : List Timescale) (us : List Description) (d : Parts) → design_of ts us ≡ Some d → has_unit us ≡ true
-has_module ts [] d e = absurd cc
-has_module ts (Module m ∷ us) d e = refl
-has_module ts (Program p ∷ us) d e = refl
-has_module ts (Item i ∷ us) d e = absurd cc
+-- a design, where there is one
+abbrev good_or : Parts → Checked Parts → Parts
+good_or e (Good d) = d
+good_or e (Broken f) = e
+
+one_good : (d e : Parts) → Good d ≡ Good e → d ≡ e
+one_good d e is = ap (good_or d) is
+
+-- the rule of what breaks one
+abbrev broken : Checked Parts → FrontFault
+broken (Good d) = front.Memory
+broken (Broken f) = front.Rule f.rule f.at
 
 module _ (text : List ℕ) where
   same_tokens : (ts us : List Token) → Lexes 0 text ts → Lexes 0 text us → ts ≡ us
@@ -110,8 +118,15 @@ module _ (text : List ℕ) where
   spelled : (us : List Description) (at : Place) (k : SyntaxKind) → IsParsed text us → IsMisspelled text at k → ⊥
   spelled us at k p q = read_through most_depth (toks q.tokens) us at k (subst (λ (ts : List Token). Reads (texts_of file) most_depth (toks ts) us []) (same_tokens p.tokens q.tokens p.lexes q.lexes) p.spells) q.fault
 
-  rooted : (us vs : List Description) → IsParsed text us → IsParsed text vs → has_unit us ≡ true → has_unit vs ≡ false → ⊥
-  rooted us vs p q e f = let no : true ≡ false = sym e ∙ ap has_unit (one_reading text us vs p q) ∙ f in cc
+  -- a text has one design or one fault of elaboration
+  one_elaborated : (us vs : List Description) → IsParsed text us → IsParsed text vs
+      → elaborated us (scales 0 text) None ≡ elaborated vs (scales 0 text) None
+  one_elaborated us vs p q = ap (λ ds. elaborated ds (scales 0 text) None) (one_reading text us vs p q)
+
+  never_both : (us vs : List Description) (d : Parts) (n : ℕ) (at : Place) → IsParsed text us → IsParsed text vs
+      → elaborated us (scales 0 text) None ≡ Good d → elaborated vs (scales 0 text) None ≡ Broken (record { at = at; rule = n }) → ⊥
+  never_both us vs d n at p q good bad =
+      let no : Good d ≡ Broken (record { at = at; rule = n }) = sym good ∙ one_elaborated us vs p q ∙ bad in cc
 
   misspelled : (a b : Place) (k m : SyntaxKind) → IsMisspelled text a k → IsMisspelled text b m → (a ≡ b) × (k ≡ m)
   misspelled a b k m p q = one_syntax most_depth (toks q.tokens) a b k m (subst (λ (ts : List Token). IsFault most_depth (toks ts) a k) (same_tokens p.tokens q.tokens p.lexes q.lexes) p.fault) q.fault
@@ -119,22 +134,23 @@ module _ (text : List ℕ) where
   pub one_fault : (f g : FrontFault) → Explains text f → Explains text g → f ≢ front.Memory → g ≢ front.Memory → f ≡ g
   one_fault (front.Lexical a k) (front.Lexical b m) p q n o = ap lexical (sym p ∙ q)
   one_fault (front.Lexical a k) (front.Syntax b m) p q n o = absurd (lexed (k, a) q.tokens p q.lexes)
-  one_fault (front.Lexical a k) front.NoRoot p q n o = absurd (lexed (k, a) q.parsed.tokens p q.parsed.lexes)
+  one_fault (front.Lexical a k) (front.Rule r at) p q n o = absurd (lexed (k, a) q.parsed.tokens p q.parsed.lexes)
   one_fault (front.Lexical a k) front.NotYet p q n o = absurd (lexed (k, a) q.parsed.tokens p q.parsed.lexes)
   one_fault (front.Lexical a k) front.Memory p q n o = absurd (o refl)
   one_fault (front.Syntax a k) (front.Lexical b m) p q n o = absurd (lexed (m, b) p.tokens q p.lexes)
   one_fault (front.Syntax a k) (front.Syntax b m) p q n o = let both = misspelled a b k m p q in λ i. front.Syntax (both.0 i) (both.1 i)
-  one_fault (front.Syntax a k) front.NoRoot p q n o = absurd (spelled q.units a k q.parsed p)
+  one_fault (front.Syntax a k) (front.Rule r at) p q n o = absurd (spelled q.units a k q.parsed p)
   one_fault (front.Syntax a k) front.NotYet p q n o = absurd (spelled q.units a k q.parsed p)
   one_fault (front.Syntax a k) front.Memory p q n o = absurd (o refl)
-  one_fault front.NoRoot (front.Lexical b m) p q n o = absurd (lexed (m, b) p.parsed.tokens q p.parsed.lexes)
-  one_fault front.NoRoot (front.Syntax b m) p q n o = absurd (spelled p.units b m p.parsed q)
-  one_fault front.NoRoot front.NoRoot p q n o = refl
-  one_fault front.NoRoot front.NotYet p q n o = absurd (rooted q.units p.units q.parsed p.parsed q.root p.none)
-  one_fault front.NoRoot front.Memory p q n o = absurd (o refl)
+  one_fault (front.Rule r at) (front.Lexical b m) p q n o = absurd (lexed (m, b) p.parsed.tokens q p.parsed.lexes)
+  one_fault (front.Rule r at) (front.Syntax b m) p q n o = absurd (spelled p.units b m p.parsed q)
+  one_fault (front.Rule r at) (front.Rule v to) p q n o =
+      ap broken (sym p.fault ∙ one_elaborated p.units q.units p.parsed q.parsed ∙ q.fault)
+  one_fault (front.Rule r at) front.NotYet p q n o = absurd (never_both q.units p.units q.parts r at q.parsed p.parsed q.design p.fault)
+  one_fault (front.Rule r at) front.Memory p q n o = absurd (o refl)
   one_fault front.NotYet (front.Lexical b m) p q n o = absurd (lexed (m, b) p.parsed.tokens q p.parsed.lexes)
   one_fault front.NotYet (front.Syntax b m) p q n o = absurd (spelled p.units b m p.parsed q)
-  one_fault front.NotYet front.NoRoot p q n o = absurd (rooted p.units q.units p.parsed q.parsed p.root q.none)
+  one_fault front.NotYet (front.Rule r at) p q n o = absurd (never_both p.units q.units p.parts r at p.parsed q.parsed p.design q.fault)
   one_fault front.NotYet front.NotYet p q n o = refl
   one_fault front.NotYet front.Memory p q n o = absurd (o refl)
   one_fault front.Memory g p q n o = absurd (n refl)
@@ -142,6 +158,8 @@ module _ (text : List ℕ) where
   pub fault_or_design : (d : Parts) (f : FrontFault) → IsSource text d → Explains text f → f ≡ front.Memory
   fault_or_design d (front.Lexical a k) s p = absurd (lexed (k, a) s.parsed.tokens p s.parsed.lexes)
   fault_or_design d (front.Syntax a k) s p = absurd (spelled s.units a k s.parsed p)
-  fault_or_design d front.NoRoot s p = absurd (rooted s.units p.units s.parsed p.parsed (has_module (scales 0 text) s.units d s.design) p.none)
-  fault_or_design d front.NotYet s p = absurd (p.other d s)
+  fault_or_design d (front.Rule r at) s p = absurd (never_both s.units p.units d r at s.parsed p.parsed s.design p.fault)
+  fault_or_design d front.NotYet s p =
+      let same : Good p.parts ≡ Good d = sym p.design ∙ one_elaborated p.units s.units p.parsed s.parsed ∙ s.design in
+      absurd (p.other (subst (λ (e : Parts). IsBuilt e) (sym (one_good p.parts d same)) s.built))
   fault_or_design d front.Memory s p = refl

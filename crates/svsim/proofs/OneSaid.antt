@@ -1,10 +1,9 @@
 -- Words, files and limits have one saying.
-use Rattle.std.proofs.Common.{ℕ, ◌≡◌, ◌<◌, ◌≤◌, List, [], Option, Some, None, refl, sym, ap, subst, ◌∙◌, arith}
-use Rattle.std.specs.Prelude.{length}
+use Rattle.std.proofs.Common.{ℕ, ◌≡◌, List, [], Option, Some, None, refl, sym, ap, subst, ◌∙◌, arith}
 use Rattle.sv_flat.specs.declared.design.Parts.{Parts}
 use Rattle.svsim.specs.declared.front.FrontFault.{FrontFault}
 use Rattle.svsim.specs.Said.{Said, Limits, SaysOn, too_long, refused, runs, Says, usage, on_file, refusal, said_of_run, run_of}
-use Rattle.svsim.specs.Words.{Asked, asked}
+use Rattle.svsim.specs.Words.{Asked}
 use Rattle.svsim.proofs.FaultLemmas.{one_fault, fault_or_design}
 use Rattle.svsim.proofs.SourceLemmas.{one_design}
 

@@ -9,7 +9,7 @@ use Rattle.sv_flat.specs.Directed.{log_of, log_text}
 use Rattle.svsim.specs.declared.run.Closing.{Closing}
 use Rattle.svsim.specs.declared.run.Cut.{Cut}
 use Rattle.svsim.specs.declared.run.Cut.TheVariants.{LogFailed, Memory}
-use Rattle.svsim.specs.Said.{Said, Limits, Files, SaysOn, Says, IsLine, line, run_of}
+use Rattle.svsim.specs.Said.{Said, Limits, Files, Says, IsLine, line, run_of}
 use Rattle.svsim.specs.Simulated.{NoFault, IsPrefixOfRecords, AreRecords, IsAllSaid, NamesFile}
 use Rattle.svsim.specs.Source.{IsSource}
 use Rattle.svsim.specs.Words.{Asked, asked}

@@ -1,7 +1,7 @@
 -- What the words of the command line ask for.
 use Rattle.std.specs.Prelude.{ℕ, ◌^◌, ◌-◌, Bool, false, not, ◌==◌, ◌&&◌, List, [], ◌∷◌, Option, None, Some, nat_le, length, codes, option_and_then, option_map, string_bytes, if◌then◌else◌}
 use Rattle.std.specs.Str.{bytes_eq}
-use Rattle.sv_form.specs.Digits.{is_number, number_of}
+use Rattle.svsim.specs.Digits.{is_number, number_of}
 use Rattle.svsim.specs.declared.words.Simulation.{Simulation}
 use Rattle.svsim.specs.declared.words.Task.{Task}
 use Rattle.svsim.specs.declared.words.Task.TheVariants.{Run}

@@ -4,8 +4,8 @@ ghost use Rattle.svsim.specs.Words.{choice_list, number_within, between_commas};
 ghost use Rattle.std.specs.List.{prefix_len};
 ghost use Rattle.svsim.specs.Parts.{is_no_comma, parts_left};
 
+use crate::digits::{is_number, number_of};
 use std::alloc::{AllocError, Global};
-use sv_form::{is_number, number_of};
 
 /// The most numbers of a list.
 const MOST_CHOICES: usize = 65_536;

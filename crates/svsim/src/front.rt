@@ -1,13 +1,14 @@
 // From the text of a file to its design.
 ghost use Rattle.std.specs.Prelude.{◌≡◌, ◌≤◌, ◌^◌, IfOk, IfErr, length, map};
 ghost use Rattle.sv_tree.specs.UnitView.{description as file_tree};
-ghost use Rattle.svsim.specs.Source.{IsSource, IsDesign, Declines, Explains, of_form, of_lexical, of_syntax, refusal_text, syntax_text};
+ghost use Rattle.svsim.specs.Source.{IsSource, IsDesign, Declines, Explains, of_lexical, of_refusal, of_syntax, refusal_text, syntax_text};
 ghost use Rattle.svsim.specs.declared.front.FrontFault.TheVariants.{Memory};
 
 use std::alloc::{AllocError, AllocFailed, Global};
+use sv_elab_design::elaborate;
 use sv_flat::{Design, is_built};
-use sv_form::{FormFault, has_unit, parts_of};
 use sv_lex::{LexFault, lex};
+use sv_names::Refusal;
 use sv_parse::{SyntaxFault, SyntaxKind};
 use sv_parse_unit::parse;
 use sv_tree::{Description, Refused, Timescale};
@@ -23,10 +24,10 @@ pub enum FrontFault {
     /// No file goes on with the token at a place, or only files that are too deep (A.1).
     #[error("{kind}")]
     Syntax { at: Place, kind: SyntaxKind },
-    /// There is no module and no program, so no design has a root (23.3.1).
-    #[error("E4")]
-    NoRoot,
-    /// It has another form than those that run today.
+    /// The first rule of the language that is broken, E1 to E58, and its place (docs/RULES.md).
+    #[error("E{rule}")]
+    Rule { rule: u8, at: Place },
+    /// No rule is broken, and the design has forms that do not run today.
     #[error("not yet")]
     NotYet,
     /// Memory ran out.
@@ -72,13 +73,13 @@ impl From<SyntaxFault> for FrontFault {
     }
 }
 
-impl From<FormFault> for FrontFault {
-    ghost from_gives = { λ fault e. e ≡ of_form fault };
+impl From<Refusal> for FrontFault {
+    ghost from_gives = { λ refusal e. e ≡ of_refusal refusal };
 
-    fn from(fault: FormFault) -> Self {
-        match fault {
-            FormFault::NotYet => FrontFault::NotYet,
-            FormFault::Memory => FrontFault::Memory,
+    fn from(refusal: Refusal) -> Self {
+        match refusal {
+            Refusal::Memory => FrontFault::Memory,
+            Refusal::Rule { rule, at } => FrontFault::Rule { rule, at },
         }
     }
 }
@@ -116,10 +117,7 @@ fn design_of(
     ensures design { IfOk result (λ d. IsDesign scales.now (map file_tree units.now) d) }
     ensures none { IfErr result (Declines scales.now (map file_tree units.now)) }
 {
-    if !has_unit(units) {
-        return Err(FrontFault::NoRoot);
-    }
-    let parts = parts_of(alloc, scales, units)?;
+    let parts = elaborate(alloc, units, scales, None)?;
     if !is_built(&parts) {
         return Err(FrontFault::NotYet);
     }

@@ -99,6 +99,61 @@ fn runs_files(rt: HostRuntime) -> Result<(), Fail> {
 }
 
 #[test]
+fn runs_units_and_declarations(rt: HostRuntime) -> Result<(), Fail> {
+    for (text, log) in [
+        (
+            "module t; initial ; int a; endmodule : t",
+            "svsim: done at 0\n",
+        ),
+        ("program t; endprogram ;", "svsim: done at 0\n"),
+        (
+            "module t; u a(); u b(); endmodule module u; initial $display(\"u\"); endmodule",
+            "u\nu\nsvsim: done at 0\n",
+        ),
+        (
+            "module t; reg a; logic signed [0:3] b; logic [3:1] c; endmodule module u; endmodule",
+            "svsim: done at 0\n",
+        ),
+    ] {
+        says(&rt, text.as_bytes(), "", log.as_bytes(), 0)?;
+    }
+    Ok(())
+}
+
+#[test]
+fn runs_further_statements(rt: HostRuntime) -> Result<(), Fail> {
+    for (text, log) in [
+        (
+            "module t; initial $display(\"%%\"); initial $display(); initial $display(\"a\\n\", \"b\"); endmodule",
+            "%\n\na\nb\nsvsim: done at 0\n",
+        ),
+        (
+            "module t; int a; initial $display(\"%0d\", a, 7); endmodule",
+            "0          7\nsvsim: done at 0\n",
+        ),
+        (
+            "module t; initial #1 begin end initial $display(\"%b %0d %h %d\", 4'b1x0z, 5, 8'hfe, 3); endmodule",
+            "1x0z 5 fe           3\nsvsim: done at 1\n",
+        ),
+        (
+            "module t; int a; initial begin a = (1) + 2 + 4'h3; a <= #1 ~4'b10101; #1ns ; #1 $display(\"%0d\", a); end endmodule",
+            "-6\nsvsim: done at 2\n",
+        ),
+        (
+            "module t; int a; initial @a $display(\"a\"); initial @(a or a) $display(\"b\"); initial #1_0 a = 1; endmodule",
+            "a\nb\nsvsim: done at 10\n",
+        ),
+        (
+            "module t; initial begin : x #2 $display(\"x\"); $finish; end initial y: #1234567890 ; endmodule",
+            "x\nsvsim: done at 2\n",
+        ),
+    ] {
+        says(&rt, text.as_bytes(), "", log.as_bytes(), 0)?;
+    }
+    Ok(())
+}
+
+#[test]
 fn takes_a_list_of_choices(rt: HostRuntime) -> Result<(), Fail> {
     let text = "module t; initial $display(\"A\"); initial $display(\"B\"); endmodule";
     for (options, log) in [

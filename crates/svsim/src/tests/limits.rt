@@ -89,19 +89,21 @@ fn printing(alloc: Global, length: usize) -> Result<Vec<u8>, AllocError> {
 #[test]
 fn keeps_the_limit_of_texts(rt: HostRuntime) -> Result<(), Fail> {
     let alloc = rt.alloc();
-    let mut log = repeated(alloc, b'x', 1000)?;
+    let mut log = repeated(alloc, b'x', 65_534)?;
     log.extend_from_slice(b"\nsvsim: done at 0\n")?;
-    says(&rt, &printing(alloc, 1000)?, "", &log, 0)?;
-    let log = b"svsim: a.sv:1:1: refused: not yet\n";
-    says(&rt, &printing(alloc, 1001)?, "", log, 1)
+    says(&rt, &printing(alloc, 65_534)?, "", &log, 0)?;
+    let log = b"svsim: a.sv:1:19: text too long at 0\n";
+    says(&rt, &printing(alloc, 65_535)?, "", log, 4)
 }
 
 #[test]
 fn keeps_the_limit_of_tokens(rt: HostRuntime) -> Result<(), Fail> {
     let alloc = rt.alloc();
-    let mut text = repeated(alloc, b';', 2_097_152)?;
-    says(&rt, &text, "", b"svsim: a.sv:1:1: refused: E4\n", 1)?;
-    text.push(b';')?;
+    let mut text = repeated(alloc, b';', 2_097_151)?;
+    text.push(b')')?;
+    let log = b"svsim: a.sv:1:2097152: refused: unexpected token\n";
+    says(&rt, &text, "", log, 1)?;
+    text.push(b')')?;
     let log = b"svsim: a.sv:1:2097153: refused: too many tokens\n";
     says(&rt, &text, "", log, 1)
 }

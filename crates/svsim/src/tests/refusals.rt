@@ -69,49 +69,81 @@ fn tells_the_first_token_that_does_not_fit(rt: HostRuntime) -> Result<(), Fail> 
 }
 
 #[test]
-fn tells_files_of_another_form(rt: HostRuntime) -> Result<(), Fail> {
-    for text in [
-        "module t; initial $display(\"a%d\"); endmodule",
-        "module t; initial $display(\"%%\"); endmodule",
-        "module t; initial $display(\"a%\"); endmodule",
-        "module t; initial $display(\"a\\n\"); endmodule",
-        "module t; initial $displayb(\"a\"); endmodule",
-        "module t; initial $display(); endmodule",
-        "module t; initial #1234567890 ; endmodule",
-        "module t; initial #1ns ; endmodule",
-        "module t; initial #1_0 ; endmodule",
-        "module t; initial ; int a; endmodule",
-        "module t; reg a; endmodule",
-        "module t; logic signed a; endmodule",
-        "module t; logic [64:0] a; endmodule",
-        "module t; logic [3:1] a; endmodule",
-        "module t; logic [0:3] a; endmodule",
-        "module t; int a = 1; endmodule",
-        "module t; int a, a; initial a = 1; endmodule",
-        "module t; initial a = 1; endmodule",
-        "module t; int a; initial a = (1); endmodule",
-        "module t; int a; initial a = 1 + 2 + 3; endmodule",
-        "module t; int a; initial a = ~1; endmodule",
-        "module t; int a; initial a = 4'h1; endmodule",
-        "module t; int a; initial a = 4'b10101; endmodule",
-        "module t; int a; initial a[0] = 1; endmodule",
-        "module t; int a; initial a <= #1 1; endmodule",
-        "module t; int a; initial @a ; endmodule",
-        "module t; int a; initial @(a or a) ; endmodule",
-        "module t; int a; initial $display(\"%0d\"); endmodule",
-        "module t; int a; initial $display(\"%0d\", a, a); endmodule",
-        "module t; int a; initial $display(\"%0d\", 1); endmodule",
-        "module t; initial x: ; endmodule",
-        "module t; initial begin : x end endmodule",
-        "module t; endmodule : t",
-        "module t; endmodule module u; endmodule",
-        "module t; endmodule ;",
-        "program t; endprogram",
-        "`timescale 1ns/1ps\nmodule t; endmodule\n`timescale 1ns/1ns\n",
-        "`timescale 1ps/1ns\nmodule t; endmodule",
+fn tells_the_first_rule_that_is_broken(rt: HostRuntime) -> Result<(), Fail> {
+    let alloc = rt.alloc();
+    for (text, place, rule) in [
+        ("module t; endmodule module t; endmodule", "1:28", "E1"),
+        ("module t; u a(); endmodule", "1:11", "E2"),
+        ("module t; endmodule : u", "1:23", "E5"),
+        ("module t; int a, a; initial b = 1; endmodule", "1:18", "E5"),
+        ("module t; initial b = 1; int a, a; endmodule", "1:19", "E6"),
+        (
+            "\nclass c extends d; endclass module t; endmodule",
+            "2:17",
+            "E6",
+        ),
+        ("module t; logic [64:0] a; endmodule", "1:17", "E13"),
     ] {
-        let log = b"svsim: a.sv:1:1: refused: not yet\n";
-        says(&rt, text.as_bytes(), "", log, 1)?;
+        let said = refused(alloc, place, rule)?;
+        says(&rt, text.as_bytes(), "", said.as_bytes(), 1)?;
+    }
+    Ok(())
+}
+
+#[test]
+fn tells_a_rule_of_system_tasks(rt: HostRuntime) -> Result<(), Fail> {
+    let alloc = rt.alloc();
+    for (text, place, rule) in [
+        (
+            "module t; initial $display(\"a%d\"); endmodule",
+            "1:28",
+            "E50",
+        ),
+        (
+            "module t; initial $display(\"a%\"); endmodule",
+            "1:28",
+            "E50",
+        ),
+        (
+            "module t; int a; initial $display(\"%0d\"); endmodule",
+            "1:35",
+            "E50",
+        ),
+        (
+            "module t; initial $displayb(\"a\"); endmodule",
+            "1:19",
+            "E55",
+        ),
+        (
+            "module t;\n  initial begin\n    $foo;\n    b = 1;\n  end\nendmodule",
+            "3:5",
+            "E55",
+        ),
+    ] {
+        let said = refused(alloc, place, rule)?;
+        says(&rt, text.as_bytes(), "", said.as_bytes(), 1)?;
+    }
+    Ok(())
+}
+
+#[test]
+fn tells_a_rule_of_time_scales(rt: HostRuntime) -> Result<(), Fail> {
+    let alloc = rt.alloc();
+    for (text, place, rule) in [
+        ("`timescale 1ps/1ns\nmodule t; endmodule", "1:1", "E54"),
+        (
+            "`timescale 1ns/1ps\nmodule t; endmodule\n`timescale 1ns/1ns\n",
+            "3:1",
+            "E54",
+        ),
+        (
+            "`timescale 1ns/1ps\nmodule t; initial b = 1; endmodule\n`timescale 1ns/1ns\n",
+            "2:19",
+            "E6",
+        ),
+    ] {
+        let said = refused(alloc, place, rule)?;
+        says(&rt, text.as_bytes(), "", said.as_bytes(), 1)?;
     }
     Ok(())
 }
@@ -124,8 +156,29 @@ fn tells_files_without_a_root(rt: HostRuntime) -> Result<(), Fail> {
         ";",
         ";;;",
         "typedef int t; class c; endclass",
+        "class c extends d; endclass",
+        "module t; t x(); endmodule",
     ] {
         let log = b"svsim: a.sv:1:1: refused: E4\n";
+        says(&rt, text.as_bytes(), "", log, 1)?;
+    }
+    Ok(())
+}
+
+#[test]
+fn tells_forms_that_do_not_run(rt: HostRuntime) -> Result<(), Fail> {
+    for text in [
+        "module t; int a = 1; endmodule",
+        "module t; int a, b; assign a = b; endmodule",
+        "module t; logic a; always #5 a = ~a; endmodule",
+        "module t; int a; initial a[0] = 1; endmodule",
+        "module t; int a; initial if (a[1]) ; endmodule",
+        "module t; initial repeat (2) $display(\"x\"); endmodule",
+        "module t; initial $display(\"%s\", \"a\"); endmodule",
+        "module t; initial $display(\"%0d\", $time); endmodule",
+        "program p; initial $display(\"p\"); endprogram",
+    ] {
+        let log = b"svsim: a.sv:1:1: refused: not yet\n";
         says(&rt, text.as_bytes(), "", log, 1)?;
     }
     Ok(())
@@ -176,7 +229,8 @@ fn said_of_cut(alloc: Global, before: &Token) -> Result<String, AllocError> {
     let col = before.at.col;
     match before.kind {
         Kind::Module => refused(alloc, "1:1", "E4"),
-        Kind::Program | Kind::EndOfText => refused(alloc, "1:1", "not yet"),
+        Kind::Program => refused(alloc, "6:3", "E2"),
+        Kind::EndOfText => refused(alloc, "1:1", "not yet"),
         _ => format!(in alloc; "svsim: a.sv:{line}:{col}: refused: unexpected token\n"),
     }
 }

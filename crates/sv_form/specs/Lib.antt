@@ -1,9 +1,0 @@
-pub mod Digits
-pub mod Format
-pub mod Pieces
-pub mod Terms
-pub mod Variables
-pub mod Simple
-pub mod Scales
-pub mod Form
-pub mod Reading

@@ -1,0 +1,9 @@
+use Rattle.std.proofs.Common.{◌≡◌, ◌<◌, ◌^◌, drop}
+use Rattle.svsim.specs.Digits.{number_behind}
+use Rattle.svsim.proofs.digits.number_of.Given as goal
+
+abbrev pub invariant-loop-d : goal.invariant-loop-d
+invariant-loop-d l = record {
+  reads : number_behind l.number (drop l.d-index l.digits) ≡ number_behind 0 l.digits;
+  small : l.number < 10 ^ l.d-index;
+}
