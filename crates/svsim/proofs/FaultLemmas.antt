@@ -108,7 +108,7 @@ abbrev broken : Checked Parts → FrontFault
 broken (Good d) = front.Memory
 broken (Broken f) = front.Rule f.rule f.at
 
-module _ (text : List ℕ) where
+module _ (text : List ℕ) (top : Option (List ℕ)) where
   same_tokens : (ts us : List Token) → Lexes 0 text ts → Lexes 0 text us → ts ≡ us
   same_tokens ts us p q = p.same ∙ sym q.same
 
@@ -118,20 +118,20 @@ module _ (text : List ℕ) where
   spelled : (us : List Description) (at : Place) (k : SyntaxKind) → IsParsed text us → IsMisspelled text at k → ⊥
   spelled us at k p q = read_through most_depth (toks q.tokens) us at k (subst (λ (ts : List Token). Reads (texts_of file) most_depth (toks ts) us []) (same_tokens p.tokens q.tokens p.lexes q.lexes) p.spells) q.fault
 
-  -- a text has one design or one fault of elaboration
+  -- a text has one design or one fault of elaboration under one root
   one_elaborated : (us vs : List Description) → IsParsed text us → IsParsed text vs
-      → elaborated us (scales 0 text) None ≡ elaborated vs (scales 0 text) None
-  one_elaborated us vs p q = ap (λ ds. elaborated ds (scales 0 text) None) (one_reading text us vs p q)
+      → elaborated us (scales 0 text) top ≡ elaborated vs (scales 0 text) top
+  one_elaborated us vs p q = ap (λ ds. elaborated ds (scales 0 text) top) (one_reading text us vs p q)
 
   never_both : (us vs : List Description) (d : Parts) (n : ℕ) (at : Place) → IsParsed text us → IsParsed text vs
-      → elaborated us (scales 0 text) None ≡ Good d → elaborated vs (scales 0 text) None ≡ Broken (record { at = at; rule = n }) → ⊥
+      → elaborated us (scales 0 text) top ≡ Good d → elaborated vs (scales 0 text) top ≡ Broken (record { at = at; rule = n }) → ⊥
   never_both us vs d n at p q good bad =
       let no : Good d ≡ Broken (record { at = at; rule = n }) = sym good ∙ one_elaborated us vs p q ∙ bad in cc
 
   misspelled : (a b : Place) (k m : SyntaxKind) → IsMisspelled text a k → IsMisspelled text b m → (a ≡ b) × (k ≡ m)
   misspelled a b k m p q = one_syntax most_depth (toks q.tokens) a b k m (subst (λ (ts : List Token). IsFault most_depth (toks ts) a k) (same_tokens p.tokens q.tokens p.lexes q.lexes) p.fault) q.fault
 
-  pub one_fault : (f g : FrontFault) → Explains text f → Explains text g → f ≢ front.Memory → g ≢ front.Memory → f ≡ g
+  pub one_fault : (f g : FrontFault) → Explains text top f → Explains text top g → f ≢ front.Memory → g ≢ front.Memory → f ≡ g
   one_fault (front.Lexical a k) (front.Lexical b m) p q n o = ap lexical (sym p ∙ q)
   one_fault (front.Lexical a k) (front.Syntax b m) p q n o = absurd (lexed (k, a) q.tokens p q.lexes)
   one_fault (front.Lexical a k) (front.Rule r at) p q n o = absurd (lexed (k, a) q.parsed.tokens p q.parsed.lexes)
@@ -155,7 +155,7 @@ module _ (text : List ℕ) where
   one_fault front.NotYet front.Memory p q n o = absurd (o refl)
   one_fault front.Memory g p q n o = absurd (n refl)
 
-  pub fault_or_design : (d : Parts) (f : FrontFault) → IsSource text d → Explains text f → f ≡ front.Memory
+  pub fault_or_design : (d : Parts) (f : FrontFault) → IsSource text top d → Explains text top f → f ≡ front.Memory
   fault_or_design d (front.Lexical a k) s p = absurd (lexed (k, a) s.parsed.tokens p s.parsed.lexes)
   fault_or_design d (front.Syntax a k) s p = absurd (spelled s.units a k s.parsed p)
   fault_or_design d (front.Rule r at) s p = absurd (never_both s.units p.units d r at s.parsed p.parsed s.design p.fault)

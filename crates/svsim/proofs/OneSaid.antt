@@ -19,11 +19,11 @@ module _ (limit : ℕ) (a : Asked) (text : List ℕ) where
   one_on s t (too_long h) (refused k f n e) = absurd (omega (arith, h, k))
   one_on s t (too_long h) (runs k d p) = absurd (omega (arith, h, k))
   one_on s t (refused h f n e) (too_long k) = absurd (omega (arith, h, k))
-  one_on s t (refused h f n e) (refused k g m i) = ap refused_with (one_fault text f g e i n m)
-  one_on s t (refused h f n e) (runs k d p) = absurd (n (fault_or_design text d f p e))
+  one_on s t (refused h f n e) (refused k g m i) = ap refused_with (one_fault text a.top f g e i n m)
+  one_on s t (refused h f n e) (runs k d p) = absurd (n (fault_or_design text a.top d f p e))
   one_on s t (runs h d p) (too_long k) = absurd (omega (arith, h, k))
-  one_on s t (runs h d p) (refused k f n e) = absurd (n (fault_or_design text d f p e))
-  one_on s t (runs h d p) (runs k e q) = ap run_with (one_design text d e p q)
+  one_on s t (runs h d p) (refused k f n e) = absurd (n (fault_or_design text a.top d f p e))
+  one_on s t (runs h d p) (runs k e q) = ap run_with (one_design text a.top d e p q)
 
 module _ (l : Limits) (words : List (List ℕ)) (files : List ℕ → Option (List ℕ)) where
   -- two texts of one file are one, and so is what is said on them

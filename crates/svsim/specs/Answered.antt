@@ -52,14 +52,15 @@ pub record IsNotRead (l : Limits) (words : List (List ℕ)) (s : ShelfSeen) (o :
 -- records of the run of the text were put: a prefix of them
 abbrev pub PutsRecords : Asked → List ℕ → LogSeen → Type 0
 PutsRecords a text o =
-    (records : List ℕ) × ((records ≡ []) ⊎ ((d : Parts) × IsSource text d × IsPrefix records (log_text true (run_of a.active a.steps d))))
+    (records : List ℕ) × ((records ≡ []) ⊎ ((d : Parts) × IsSource text a.top d × IsPrefix records (log_text true (run_of a.active a.steps d))))
     × (o.new ≡ appended o.old records)
 
 -- the first records of the run of the text were put, each whole
 abbrev pub PutsWhole : Asked → List ℕ → LogSeen → Type 0
 PutsWhole a text o =
     (bytes : List ℕ)
-    × ((bytes ≡ []) ⊎ ((d : Parts) × IsSource text d × (rs : List Record) × IsPrefix rs (run_of a.active a.steps d).records × (bytes ≡ log_of true rs)))
+    × ((bytes ≡ [])
+    ⊎ ((d : Parts) × IsSource text a.top d × (rs : List Record) × IsPrefix rs (run_of a.active a.steps d).records × (bytes ≡ log_of true rs)))
     × (o.new ≡ appended o.old bytes)
 
 -- a call gives a closing, or tells what cut it short

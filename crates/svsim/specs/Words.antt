@@ -6,9 +6,11 @@ use Rattle.svsim.specs.declared.words.Simulation.{Simulation}
 use Rattle.svsim.specs.declared.words.Task.{Task}
 use Rattle.svsim.specs.declared.words.Task.TheVariants.{Run}
 
--- a run of a file, with the numbers of the Active list, and at most so many steps
+-- a run of a file, under the unit that is named or under all that are nowhere instantiated, with the numbers of the Active list, and at most so
+-- many steps
 pub record Asked : Type 0 where
   pub file : List ℕ
+  pub top : Option (List ℕ)
   pub active : List ℕ
   pub steps : ℕ
 
@@ -57,6 +59,20 @@ abbrev pub is_option : List ℕ → Bool
 is_option [] = false
 is_option (b ∷ bs) = b == 45
 
+-- the first words are `--top NAME`, where NAME does not begin with `-`
+abbrev pub names_top : (w name : List ℕ) → Bool
+names_top w name = bytes_eq w (codes "--top") && not (is_option name)
+
+-- the name of `[--top NAME]`
+abbrev pub top_in : List (List ℕ) → Option (List ℕ)
+top_in (w ∷ name ∷ rest) = if names_top w name then Some name else None
+top_in _ = None
+
+-- the words behind `[--top NAME]`
+abbrev pub behind_top : List (List ℕ) → List (List ℕ)
+behind_top (w ∷ name ∷ rest) = if names_top w name then rest else w ∷ name ∷ rest
+behind_top words = words
+
 -- the list of `[--active L]` as it is written, which is empty where there is none
 abbrev pub list_in : List (List ℕ) → List ℕ
 list_in (w ∷ l ∷ rest) = if bytes_eq w (codes "--active") then l else []
@@ -73,13 +89,18 @@ steps_in most [] = Some most
 steps_in most (w ∷ n ∷ []) = if bytes_eq w (codes "--steps") then number_within most n else None
 steps_in most _ = None
 
--- `FILE [--active L] [--steps N]`
-abbrev pub asked_of : (most : ℕ) → (file : List ℕ) → List (List ℕ) → Option Asked
-asked_of most file options =
-    option_and_then (λ active. option_map (λ steps. record { file = file; active = active; steps = steps }) (steps_in most (behind_list options)))
+-- `[--active L] [--steps N]`, behind a file and the name of its root
+abbrev pub asked_under : (most : ℕ) → (file : List ℕ) → (top : Option (List ℕ)) → List (List ℕ) → Option Asked
+asked_under most file top options =
+    option_and_then
+    (λ active. option_map (λ steps. record { file = file; top = top; active = active; steps = steps }) (steps_in most (behind_list options)))
     (choice_list (list_in options))
 
--- `run FILE [--active L] [--steps N]`, where FILE does not begin with `-`
+-- `FILE [--top NAME] [--active L] [--steps N]`
+abbrev pub asked_of : (most : ℕ) → (file : List ℕ) → List (List ℕ) → Option Asked
+asked_of most file options = asked_under most file (top_in options) (behind_top options)
+
+-- `run FILE [--top NAME] [--active L] [--steps N]`, where FILE does not begin with `-`
 abbrev pub asked : (most : ℕ) → List (List ℕ) → Option Asked
 asked most (command ∷ file ∷ options) = if bytes_eq command (codes "run") && not (is_option file) then asked_of most file options else None
 asked most _ = None
@@ -88,7 +109,7 @@ asked most _ = None
 
 -- what a simulation is asked for by
 abbrev pub asked_for : Simulation → Asked
-asked_for s = record { file = string_bytes s.file; active = s.active; steps = s.steps }
+asked_for s = record { file = string_bytes s.file; top = option_map string_bytes s.top; active = s.active; steps = s.steps }
 
 -- what a task asks for
 abbrev pub asked_by : Task → Asked

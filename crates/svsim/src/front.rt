@@ -1,5 +1,5 @@
 // From the text of a file to its design.
-ghost use Rattle.std.specs.Prelude.{◌≡◌, ◌≤◌, ◌^◌, IfOk, IfErr, length, map};
+ghost use Rattle.std.specs.Prelude.{◌≡◌, ◌≤◌, ◌^◌, IfOk, IfErr, length, map, option_map};
 ghost use Rattle.sv_tree.specs.UnitView.{description as file_tree};
 ghost use Rattle.svsim.specs.Source.{IsSource, IsDesign, Declines, Explains, of_lexical, of_refusal, of_syntax, refusal_text, syntax_text};
 ghost use Rattle.svsim.specs.declared.front.FrontFault.TheVariants.{Memory};
@@ -108,29 +108,30 @@ pub fn syntax_text(kind: SyntaxKind) -> &'static str
     }
 }
 
-/// The design of the units of a file, or why they have none.
+/// The design of the units of a file under the one that is named or under all that are nowhere instantiated, or why they have none.
 fn design_of(
     alloc: Global,
     scales: &[Timescale],
     units: &[Description],
+    top: Option<&[u8]>,
 ) -> Result<Design, FrontFault>
-    ensures design { IfOk result (λ d. IsDesign scales.now (map file_tree units.now) d) }
-    ensures none { IfErr result (Declines scales.now (map file_tree units.now)) }
+    ensures design { IfOk result (λ d. IsDesign scales.now (map file_tree units.now) (option_map (λ x. x.now) top.entry) d) }
+    ensures none { IfErr result (Declines scales.now (map file_tree units.now) (option_map (λ x. x.now) top.entry)) }
 {
-    let parts = elaborate(alloc, units, scales, None)?;
+    let parts = elaborate(alloc, units, scales, top)?;
     if !is_built(&parts) {
         return Err(FrontFault::NotYet);
     }
     Ok(Design::new(parts))
 }
 
-/// The design of a text, or why it has none.
-pub fn read_design(alloc: Global, text: &[u8]) -> Result<Design, FrontFault>
+/// The design of a text under the unit that is named or under all that are nowhere instantiated, or why it has none.
+pub fn read_design(alloc: Global, text: &[u8], top: Option<&[u8]>) -> Result<Design, FrontFault>
     requires { length text.now ≤ 2 ^ 23 }
-    ensures design { IfOk result (λ d. IsSource text.now d) }
-    ensures fault { IfErr result (Explains text.now) }
+    ensures design { IfOk result (λ d. IsSource text.now (option_map (λ x. x.now) top.entry) d) }
+    ensures fault { IfErr result (Explains text.now (option_map (λ x. x.now) top.entry)) }
 {
     let lexed = lex(alloc, 0, text)?;
     let units = parse(alloc, &lexed.tokens)?;
-    design_of(alloc, &lexed.scales, &units)
+    design_of(alloc, &lexed.scales, &units, top)
 }

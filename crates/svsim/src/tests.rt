@@ -208,6 +208,33 @@ fn takes_a_number_of_steps(rt: HostRuntime) -> Result<(), Fail> {
 }
 
 #[test]
+fn takes_a_root(rt: HostRuntime) -> Result<(), Fail> {
+    let both =
+        "module t; initial $display(\"t\"); endmodule module u; initial $display(\"u\"); endmodule";
+    let inner = "module t; u a(); u b(); endmodule module u; initial $display(\"u\"); endmodule";
+    let e4 = "svsim: a.sv:1:1: refused: E4\n";
+    for (text, options, log, status) in [
+        (both, "", "t\nu\nsvsim: done at 0\n", 0),
+        (both, "--top t", "t\nsvsim: done at 0\n", 0),
+        (both, "--top u", "u\nsvsim: done at 0\n", 0),
+        (
+            both,
+            "--top u --active 1 --steps 3",
+            "u\nsvsim: stopped after 3 steps at 0\n",
+            3,
+        ),
+        (inner, "", "u\nu\nsvsim: done at 0\n", 0),
+        (inner, "--top u", "u\nsvsim: done at 0\n", 0),
+        (both, "--top v", e4, 1),
+        (both, "--top U", e4, 1),
+        (both, "--top ", e4, 1),
+    ] {
+        says(&rt, text.as_bytes(), options, log.as_bytes(), status)?;
+    }
+    Ok(())
+}
+
+#[test]
 fn tells_a_run_fault(rt: HostRuntime) -> Result<(), Fail> {
     let text = "`timescale 100s/1fs
 module t;
@@ -226,7 +253,7 @@ endmodule
 fn keeps_the_places(rt: HostRuntime) -> Result<(), Fail> {
     let alloc = rt.alloc();
     let text = "module t;\n initial\n  begin #7\n   $display(\"a\"); end\nendmodule";
-    let design = read_design(alloc, text.as_bytes())?;
+    let design = read_design(alloc, text.as_bytes(), None)?;
     assert_eq!(rt; design.routines().len(), 2);
     for process in design.processes() {
         assert_eq!(rt;
@@ -250,6 +277,12 @@ fn tells_words_without_meaning(rt: HostRuntime) -> Result<(), Fail> {
         words_of(alloc, &["go", "a.sv"])?,
         words_of(alloc, &["run", "-x"])?,
         words_of(alloc, &["run", "a.sv", "b.sv"])?,
+        words_of(alloc, &["run", "a.sv", "--top"])?,
+        words_of(alloc, &["run", "a.sv", "--top", "-x"])?,
+        words_of(alloc, &["run", "a.sv", "--top", "--active", "1"])?,
+        words_of(alloc, &["run", "a.sv", "--top", "t", "--top", "t"])?,
+        words_of(alloc, &["run", "a.sv", "--active", "1", "--top", "t"])?,
+        words_of(alloc, &["run", "a.sv", "--steps", "3", "--top", "t"])?,
         words_of(alloc, &["run", "a.sv", "--steps"])?,
         words_of(alloc, &["run", "a.sv", "--steps", "10000001"])?,
         words_of(alloc, &["run", "a.sv", "--steps", "-1"])?,

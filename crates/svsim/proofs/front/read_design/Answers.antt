@@ -1,5 +1,5 @@
 use Rattle.std.proofs.Common.{List, [], subst, ◌∙◌}
-use Rattle.std.specs.Prelude.{IfOk, IfErr, map}
+use Rattle.std.specs.Prelude.{IfOk, IfErr, map, option_map}
 use Rattle.sv_grammar.specs.Language.{Reads}
 use Rattle.sv_tree.specs.declared.token.Token.{Token}
 use Rattle.sv_tree.specs.declared.token.Timescale.{Timescale}
@@ -16,17 +16,19 @@ use Rattle.svsim.proofs.front.read_design.Goals as goal
 pub returns-clause-fault : goal.returns-clause-fault
 returns-clause-fault c =
     let us = map description c.in_ok-units.units.items in
+    let top = option_map (λ x. x.now) c.args.top in
     let spells : Reads (texts_of file) most_depth (toks c.in_ok-lexed.lexed.tokens.items) us [] =
     subst (λ (ts : List Token). Reads (texts_of file) most_depth (toks ts) us []) c.deref.ensures.value c.in_ok-units.ensures.units in
-    all_explained c.args.text.now us (record { tokens = c.in_ok-lexed.lexed.tokens.items; lexes = c.in_ok-lexed.ensures.tokens; spells = spells }) c.design_of.result
-    (subst (λ (ss : List Timescale). IfErr c.design_of.result (Declines ss us)) (c.deref-2.ensures.value ∙ c.in_ok-lexed.ensures.scales)
-    (subst (λ (vs : List Description). IfErr c.design_of.result (Declines c.deref-2.result.now (map description vs))) c.deref-3.ensures.value c.design_of.ensures.none))
+    all_explained c.args.text.now top us (record { tokens = c.in_ok-lexed.lexed.tokens.items; lexes = c.in_ok-lexed.ensures.tokens; spells = spells }) c.design_of.result
+    (subst (λ (ss : List Timescale). IfErr c.design_of.result (Declines ss us top)) (c.deref-2.ensures.value ∙ c.in_ok-lexed.ensures.scales)
+    (subst (λ (vs : List Description). IfErr c.design_of.result (Declines c.deref-2.result.now (map description vs) top)) c.deref-3.ensures.value c.design_of.ensures.none))
 
 pub returns-clause-design : goal.returns-clause-design
 returns-clause-design c =
     let us = map description c.in_ok-units.units.items in
+    let top = option_map (λ x. x.now) c.args.top in
     let spells : Reads (texts_of file) most_depth (toks c.in_ok-lexed.lexed.tokens.items) us [] =
     subst (λ (ts : List Token). Reads (texts_of file) most_depth (toks ts) us []) c.deref.ensures.value c.in_ok-units.ensures.units in
-    all_designed c.args.text.now us (record { tokens = c.in_ok-lexed.lexed.tokens.items; lexes = c.in_ok-lexed.ensures.tokens; spells = spells }) c.design_of.result
-    (subst (λ (ss : List Timescale). IfOk c.design_of.result (IsDesign ss us)) (c.deref-2.ensures.value ∙ c.in_ok-lexed.ensures.scales)
-    (subst (λ (vs : List Description). IfOk c.design_of.result (IsDesign c.deref-2.result.now (map description vs))) c.deref-3.ensures.value c.design_of.ensures.design))
+    all_designed c.args.text.now top us (record { tokens = c.in_ok-lexed.lexed.tokens.items; lexes = c.in_ok-lexed.ensures.tokens; spells = spells }) c.design_of.result
+    (subst (λ (ss : List Timescale). IfOk c.design_of.result (IsDesign ss us top)) (c.deref-2.ensures.value ∙ c.in_ok-lexed.ensures.scales)
+    (subst (λ (vs : List Description). IfOk c.design_of.result (IsDesign c.deref-2.result.now (map description vs) top)) c.deref-3.ensures.value c.design_of.ensures.design))
