@@ -21,8 +21,9 @@ CONSTANTS = ['', 'int ', 'byte ', 'logic [9:0] ']
 VARIABLES = ['int', 'byte', 'shortint', 'longint', 'integer', 'logic', 'bit', 'logic [7:0]', 'logic signed [12:0]', 'bit [30:0]',
              'bit signed [4:0]', 'reg [63:0]', 'byte unsigned', 'int unsigned']
 BASES = ['', 'logic [3:0] ', 'byte ', 'bit [5:0] ']
-UNARY = ['~', '-', '!', '&', '|', '^', '~&', '~|', '~^']
+UNARY = ['+', '~', '-', '!', '&', '|', '^', '~&', '~|', '~^']
 BINARY = ['+', '-', '*', '&', '|', '^', '~^', '<<', '>>', '<<<', '>>>', '<', '<=', '>', '>=', '==', '!=', '===', '!==', '&&', '||', '/', '%']
+ASSIGNMENTS = ['+=', '-=', '*=', '&=', '|=', '^=', '<<=', '>>=', '>>>=']
 CASTS = ['int', 'byte', 'shortint', 'longint']
 
 
@@ -53,8 +54,10 @@ class Design:
     def statement(self):
         pick, form = self.random.choice, self.random.random()
         name = pick(self.variables)
-        if form < 0.55:
+        if form < 0.42:
             return f'{name} = {self.expression(3)};'
+        if form < 0.55:
+            return f'{name} {pick(ASSIGNMENTS)} {self.expression(1)};'
         if form < 0.62:
             return f'{name}{pick(["++", "--"])};'
         if form < 0.72:
