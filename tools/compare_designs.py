@@ -9,12 +9,9 @@ same, and of each other one its design and the first two lines that differ. It n
 all agree, 1 where some do not.
 """
 import random
-import subprocess
 import sys
-import tempfile
-from pathlib import Path
 
-TOP = Path(__file__).resolve().parent.parent
+from comparing import compared
 
 PARAMETERS = ['int', 'byte', 'shortint', 'longint', 'logic [7:0]', 'bit signed [11:0]', 'integer']
 CONSTANTS = ['', 'int ', 'byte ', 'logic [9:0] ']
@@ -92,33 +89,8 @@ class Design:
         return '\n'.join([*lines, 'endmodule', ''])
 
 
-def printed(words, folder):
-    ran = subprocess.run(words, cwd=folder, capture_output=True, text=True, timeout=60)
-    return ran.returncode, [' '.join(line.split()) for line in ran.stdout.splitlines()]
-
-
 def main(count=100, seed=1):
-    same = other = 0
-    # bin/svsim keeps the program there, and sees at each call whether it is that of the sources
-    subprocess.run([TOP / 'bin' / 'svsim', 'run', TOP / 'examples' / 'hello.sv'], check=True, capture_output=True)
-    svsim = TOP / '.svsim' / 'svsim'
-    with tempfile.TemporaryDirectory() as folder:
-        file = Path(folder) / 'design.sv'
-        while same + other < count:
-            seed += 1
-            file.write_text(Design(seed).text())
-            status, ours = printed([svsim, 'run', file], folder)
-            if status or subprocess.run(['iverilog', '-g2012', '-o', 'design.vvp', '-s', 'top', file], cwd=folder, capture_output=True).returncode:
-                continue
-            ours, theirs = ours[:-1], printed(['vvp', '-n', 'design.vvp'], folder)[1]
-            if ours == theirs:
-                same += 1
-                continue
-            other += 1
-            line = next((pair for pair in zip(ours, theirs) if pair[0] != pair[1]), (len(ours), len(theirs)))
-            print(f'{file.read_text()}svsim:  {line[0]}\nicarus: {line[1]}\n')
-    print(f'{same} logs were the same, {other} were not')
-    return 1 if other else 0
+    return compared(lambda number: Design(number).text(), 'top', count, seed)
 
 
 if __name__ == '__main__':

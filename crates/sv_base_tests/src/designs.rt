@@ -4,9 +4,10 @@ ghost use Rattle.std.specs.Prelude.{IfOk, ◌≡◌};
 use std::alloc::{AllocError, Global};
 use std::process::Abort;
 use std::test::Fail;
+use sv_built::{Design, is_built};
 use sv_flat::{
-    Choices, Context, Design, Expr, ExprForm, Form, Instance, Parts, PrintKind, Process,
-    ProcessKind, Routine, Scale, Stmt, first_bits, is_built,
+    Choices, Context, Expr, ExprForm, Form, Instance, Parts, PrintKind, Process, ProcessKind,
+    Routine, Scale, Stmt, first_bits,
 };
 use sv_value::{BinOp, Bits, Integral, NoMemory, Piece, Place, RoutineId, Seq, Side, Text};
 
@@ -103,10 +104,15 @@ fn expect_built<R: Abort>(rt: &R, alloc: Global, form: Form, wanted: bool) -> Re
     Ok(())
 }
 
-/// A design with this process is not built.
-fn expect_refused<R: Abort>(rt: &R, alloc: Global, process: Process) -> Result<(), NoMemory> {
+/// A design with this process is built, or it is not.
+fn expect_process<R: Abort>(
+    rt: &R,
+    alloc: Global,
+    process: Process,
+    wanted: bool,
+) -> Result<(), NoMemory> {
     let parts = parts(alloc, Form::Null, process)?;
-    assert!(rt; !is_built(&parts));
+    assert_eq!(rt; is_built(&parts), wanted);
     Ok(())
 }
 
@@ -145,8 +151,15 @@ fn takes_what_is_built(rt: HostRuntime) -> Result<(), Fail> {
     expect_built(&rt, alloc, display(alloc, PrintKind::Strobe, 3)?, true)?;
     expect_built(&rt, alloc, display(alloc, PrintKind::Monitor, 3)?, false)?;
     expect_built(&rt, alloc, Form::Exit, false)?;
-    expect_refused(&rt, alloc, process(alloc, ProcessKind::Always, None))?;
-    expect_refused(&rt, alloc, process(alloc, ProcessKind::Initial, Some(0)))?;
+    for kind in [
+        ProcessKind::Initial,
+        ProcessKind::Always,
+        ProcessKind::AlwaysComb,
+        ProcessKind::Assign,
+    ] {
+        expect_process(&rt, alloc, process(alloc, kind, None), true)?;
+        expect_process(&rt, alloc, process(alloc, kind, Some(0)), false)?;
+    }
     Ok(())
 }
 

@@ -8,9 +8,9 @@ ghost use Rattle.sv_elab_unit.specs.Definitions.{definition_in, names_in};
 ghost use Rattle.sv_elab_unit.specs.Roots.{roots_behind};
 
 use crate::definitions::{Definition, definition_named, definition_of};
-use crate::used::is_used;
+use crate::used::used_names;
 use std::alloc::Global;
-use sv_names::same_bytes;
+use sv_names::{NameSet, same_bytes};
 use sv_tree::Description;
 use sv_value::{NoMemory, Seq};
 
@@ -35,23 +35,23 @@ pub fn put_first<'a>(name: &'a [u8], names: &mut Vec<&'a [u8]>) -> Result<(), No
 /// Appends a unit that is nowhere instantiated, where it is the first of its name.
 #[tactic(auto, using(crate::proofs::RootLaws::used_root, crate::proofs::RootLaws::seen_root))]
 fn add_root<'a>(
-    all: &[Description],
+    alloc: Global,
+    used: &NameSet,
     unit: Definition<'a>,
-    seen: &mut Vec<&'a [u8]>,
+    seen: &mut NameSet,
     list: &mut Seq<Definition<'a>>,
 ) -> Result<(), NoMemory>
-    ensures { OnOk result ((rest : List instances.Definition) → roots_behind (map description all.now) (names_in seen.new.items)
-        (map definition_in list.new) rest ≡ roots_behind (map description all.now) (names_in seen.old.items) (map definition_in list.old)
-        (definition_in unit.entry ∷ rest)) }
+    ensures { OnOk result ((rest : List instances.Definition) → roots_behind used.now seen.new (map definition_in list.new) rest
+        ≡ roots_behind used.now seen.old (map definition_in list.old) (definition_in unit.entry ∷ rest)) }
 {
     let name = unit.element.name.text.bytes();
-    if is_used(name, all) {
+    if used.has(name) {
         return Ok(());
     }
-    if is_among(name, seen.as_slice()) {
+    if seen.has(name) {
         return Ok(());
     }
-    put_first(name, seen)?;
+    seen.add(alloc, name)?;
     list.push(unit)?;
     Ok(())
 }
@@ -59,18 +59,19 @@ fn add_root<'a>(
 /// Appends the unit that a description is, where it is nowhere instantiated and the first of its name.
 #[tactic(auto, using(crate::proofs::RootLaws::turn_unit, crate::proofs::RootLaws::turn_outside))]
 fn add_description<'a>(
-    all: &[Description],
+    alloc: Global,
+    used: &NameSet,
     one: &'a Description,
-    seen: &mut Vec<&'a [u8]>,
+    seen: &mut NameSet,
     list: &mut Seq<Definition<'a>>,
 ) -> Result<(), NoMemory>
-    ensures { OnOk result ((rest : List tree.Description) → roots_behind (map description all.now) (names_in seen.new.items)
-        (map definition_in list.new) (instances.definitions rest) ≡ roots_behind (map description all.now) (names_in seen.old.items)
-        (map definition_in list.old) (instances.definitions (description one.now ∷ rest))) }
+    ensures { OnOk result ((rest : List tree.Description)
+        → roots_behind used.now seen.new (map definition_in list.new) (instances.definitions rest)
+        ≡ roots_behind used.now seen.old (map definition_in list.old) (instances.definitions (description one.now ∷ rest))) }
 {
     match definition_of(one) {
         None => Ok(()),
-        Some(unit) => add_root(all, unit, seen, list),
+        Some(unit) => add_root(alloc, used, unit, seen, list),
     }
 }
 
@@ -79,11 +80,12 @@ fn add_description<'a>(
 fn unused<'a>(alloc: Global, all: &'a [Description]) -> Result<Seq<Definition<'a>>, NoMemory>
     ensures { IfOk result (λ us. map definition_in us ≡ instances.roots (map description all.now) None) }
 {
-    let mut seen = Vec::new(alloc);
+    let used = used_names(alloc, all)?;
+    let mut seen = NameSet::new(alloc);
     let mut list = Seq::new(alloc);
     let mut left = all;
     while let [one, rest @ ..] = left {
-        add_description(all, one, &mut seen, &mut list)?;
+        add_description(alloc, &used, one, &mut seen, &mut list)?;
         left = rest;
     }
     Ok(list)

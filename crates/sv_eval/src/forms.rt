@@ -9,7 +9,7 @@ ghost use Rattle.sv_flat.specs.Eval.{Valued, with_result};
 ghost use Rattle.sv_eval.specs.Evaluates.{Evaluates};
 
 use crate::Stopped;
-use crate::printed::printed as printed_text;
+use crate::printed::printed_field;
 use crate::texts::{name_of, text_value};
 use crate::vectors::{as_integral, filled, int_of, known_index, log_of, within};
 use std::alloc::Global;
@@ -209,7 +209,7 @@ pub fn printed(
 {
     match operand {
         Ok(x) => {
-            let text = printed_text(alloc, field, pad, ticks, &x)?;
+            let text = printed_field(alloc, field, pad, ticks, &x)?;
             text_value(text)
         }
         Err(e) => Err(e),

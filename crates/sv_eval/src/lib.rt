@@ -25,6 +25,7 @@ mod vectors;
 
 pub use evaluate::{value, value_in};
 pub use forms::{text_in, vector_in};
+pub use printed::printed_field;
 pub use stopped::Stopped;
 pub use values::{Nowhere, Values};
 pub use vectors::{is_known, known_index};

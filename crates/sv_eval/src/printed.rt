@@ -110,7 +110,7 @@ fn printed_bits(
 }
 
 /// The text of a field for a value; a unit of time has so many ticks.
-pub fn printed(
+pub fn printed_field(
     alloc: Global,
     field: FormatField,
     pad: Pad,

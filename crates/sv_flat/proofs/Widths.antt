@@ -5,7 +5,7 @@ use Rattle.std.proofs.lemmas.Bool.{cases_lt}
 use Rattle.std.specs.Prelude.{max, ◌^◌}
 use Rattle.sv_flat.specs.declared.context.Operands.{Operands}
 use Rattle.sv_flat.specs.declared.context.Operands.TheVariants as operands
-use Rattle.sv_flat.specs.Built.{IsWidth}
+use Rattle.sv_flat.specs.Contexts.{IsWidth}
 use Rattle.sv_flat.specs.Contexts.{kept_width}
 use Rattle.sv_flat.specs.Eval.{binary_width}
 

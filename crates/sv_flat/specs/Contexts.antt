@@ -1,14 +1,18 @@
 -- Contexts of expressions, as the code keeps them (IEEE 1800-2017, 11.6 and 11.8).
-use Rattle.std.specs.Prelude.{ℕ, ◌-◌, ◌^◌, Bool, ◌&&◌, max, min, if◌then◌else◌}
+use Rattle.std.specs.Prelude.{ℕ, ◌≤◌, ◌-◌, ◌^◌, Bool, ◌&&◌, max, min, if◌then◌else◌}
 use Rattle.sv_value.specs.declared.operator.BinOp.{BinOp}
 use Rattle.sv_value.specs.declared.operator.UnOp.{UnOp}
 use Rattle.sv_value.specs.Operators.{unary_of, binary_of}
-use Rattle.sv_value.specs.Vector.{Vector}
+use Rattle.sv_value.specs.Vector.{Vector, widest}
 use Rattle.sv_flat.specs.declared.context.Context.{Context}
 use Rattle.sv_flat.specs.declared.context.Operands.{Operands}
 use Rattle.sv_flat.specs.declared.context.Operands.TheVariants as operands
 use Rattle.sv_flat.specs.Expr.{Expr}
 use Rattle.sv_flat.specs.Eval.{in_context, width_of, is_signed, binary_width, binary_sign}
+
+-- so many bits have a vector
+abbrev pub IsWidth : ℕ → Type 0
+IsWidth w = (1 ≤ w) × (w ≤ widest)
 
 -- a width as a word of 32 bits keeps it: the greatest one stands for all above it
 abbrev pub kept_width : ℕ → ℕ

@@ -6,9 +6,10 @@ use Rattle.sv_io.specs.Outside.{appended}
 use Rattle.sv_flat.specs.Config.{Config}
 use Rattle.sv_flat.specs.Directed.{directed, log_of}
 use Rattle.sv_flat.proofs.Prefix.{log-append, shorter_records}
-use Rattle.sv_kernel.specs.declared.log.Line.{Line}
+use Rattle.sv_machine.specs.declared.line.Line.{Line}
 use Rattle.sv_kernel.specs.Kernel.{KernelState, config_of, log_between, PutsRecords}
-use Rattle.sv_kernel.specs.Log.{record_of, records_of, texts_of}
+use Rattle.sv_machine.specs.Log.{record_of, records_of}
+use Rattle.sv_kernel.specs.Log.{texts_of}
 use Rattle.sv_kernel.proofs.RunLemmas.{appended-appended, nothing_put}
 
 -- the bytes of the records of lines are their texts

@@ -4,12 +4,6 @@ use Rattle.sv_value.specs.declared.schedule.Due.{Due}
 use Rattle.sv_value.specs.declared.schedule.Due.TheVariants.{Resume, Work}
 use Rattle.sv_value.specs.declared.schedule.Event.{Event}
 use Rattle.sv_sched.specs.Lists.{HoldsProcesses, HoldsJob}
-use Rattle.std.specs.Prelude.{ℕ, ◌<◌}
-use Rattle.sv_value.specs.declared.number.ProcessId.{ProcessId}
-
--- a process of a design with so many
-abbrev pub IsKnown : ℕ → ProcessId → Type 0
-IsKnown n p = p.0 < n
 
 -- a region may take what is due
 abbrev pub HoldsDue : Region → Due → Type 0

@@ -6,9 +6,9 @@ use Rattle.sv_value.specs.Regions.{Set, set_of, is_bare, pickable, job_count}
 use Rattle.sv_flat.specs.declared.choices.Choices.{Choices}
 use Rattle.sv_flat.specs.declared.design.Parts.{Parts}
 use Rattle.sv_flat.specs.Config.{Config}
-use Rattle.sv_flat.specs.Steps.{other, after, front, acting}
+use Rattle.sv_flat.specs.Steps.{other, after, effect, front, acting}
 use Rattle.sv_flat.specs.Directed.{place_among, kind_at, place_on, kind_in_slot}
-use Rattle.sv_kernel.specs.declared.machine.Machine.{Machine}
+use Rattle.sv_machine.specs.declared.machine.Machine.{Machine}
 
 -- the side whose set acts
 abbrev pub acting_side : Machine → Side
@@ -55,3 +55,12 @@ picked d a r c = after d c (kind_at (job_count (front c)) (place_on (acting c) a
 -- a step of a slot in which no process runs
 abbrev pub idled : Parts → Choices → Choices → Config → Config
 idled d a r c = after d c (kind_in_slot a r c)
+
+-- what is at a place of the front is taken, before the step is counted
+abbrev pub taken_from : Parts → ℕ → Config → Config
+taken_from d place c = effect d c (kind_at (job_count (front c)) place)
+
+-- the numbers that were used are still the same
+pub record SameNumbers (m n : Machine) : Type 0 where
+  pub active : n.used_active ≡ m.used_active
+  pub reactive : n.used_reactive ≡ m.used_reactive

@@ -1,27 +1,20 @@
 // What comes in later slots: the next time, with all that is due then.
-ghost use Rattle.std.specs.Prelude.{◌≡◌, ◌<◌, ◌≤◌, ◌++◌, ◌+◌, ◌^◌, [], ℕ, OnOk, OnErr, IfOk, IsOk, IsNone, Some, None, length, ◌≢◌, true, false, ◌↔◌, IsTrue, sum_by};
-ghost use Rattle.sv_value.specs.Regions.{pickable, is_bare, is_front_empty, job_count, due_in, standing};
-ghost use Rattle.sv_flat.specs.declared.choices.Choices.{Choices};
-ghost use Rattle.sv_flat.specs.declared.design.Parts.{Parts};
-ghost use Rattle.sv_flat.specs.Config.{Config};
-ghost use Rattle.sv_flat.specs.Steps.{Begin_slot, Move_region, End_slot, Next_time, after, front, acting, came_due, least_time};
-ghost use Rattle.sv_flat.specs.Directed.{advanced, kind_at, kind_in_slot, place_among, place_on};
-ghost use Rattle.sv_flat.specs.Built.{IsBuilt, IsListed};
-ghost use Rattle.sv_flat.specs.Sound.{IsSound, weight_of_event};
-ghost use Rattle.sv_kernel.specs.Frames.{stmts_left};
-ghost use Rattle.sv_kernel.specs.Machine.{Makes, AddsRecords, IsSteady};
-ghost use Rattle.sv_kernel.specs.Picks.{IsMoving, picked, idled, acting_side, acting_set, choices_of, used_in, with_used, numbers_for, place_for};
-ghost use Rattle.sv_kernel.specs.Log.{records_of};
+ghost use Rattle.std.specs.Prelude.{◌≡◌, ◌<◌, ◌≤◌, ◌+◌, ◌^◌, [], ℕ, OnOk, OnErr, Some, length, ◌≢◌, ◌↔◌, IsTrue, sum_by};
 ghost use Rattle.std.specs.List.{AllByRecursion, Contains};
 ghost use Rattle.sv_value.specs.declared.number.ProcessId.{ProcessId};
-ghost use Rattle.sv_kernel.specs.Future.{HoldsDue, HoldsEvent};
-ghost use Rattle.sv_flat.proofs.Weights.{one};
-ghost use Rattle.sv_flat.proofs.Room.{ones};
+ghost use Rattle.sv_value.specs.Regions.{due_in, standing};
+ghost use Rattle.sv_flat.specs.Steps.{Next_time, after, came_due, least_time};
 ghost use Rattle.sv_sched.specs.Future.{due_at, not_due_at};
+ghost use Rattle.sv_built.specs.Built.{IsBuilt};
+ghost use Rattle.sv_sound.specs.Sound.{weight_of_event};
+ghost use Rattle.sv_sound.proofs.Weights.{one};
+ghost use Rattle.sv_sound.proofs.Room.{ones};
+ghost use Rattle.sv_machine.specs.Machine.{Makes, IsSteady};
+ghost use Rattle.sv_kernel.specs.Future.{HoldsDue, HoldsEvent};
 
-use crate::machine::Machine;
 use crate::picks::acting;
-use sv_flat::Design;
+use sv_built::Design;
+use sv_machine::Machine;
 use sv_sched::{Regions, Wheel};
 use sv_value::{Due, NoMemory, Phase, Region};
 

@@ -5,14 +5,7 @@ ghost use Rattle.sv_io.specs.Outside.{appended, AppendsPrefix};
 ghost use Rattle.sv_kernel.specs.Log.{texts_of};
 
 use sv_io::{Sink, SinkError};
-use sv_value::{Seq, Side};
-
-/// A printed text, with the side of the process that printed it.
-#[derive(Drop)]
-pub struct Line {
-    pub side: Side,
-    pub text: Seq<u8>,
-}
+use sv_machine::Line;
 
 /// Puts the texts of lines, in order, up to the first that is not taken.
 pub fn put_lines<O: Sink>(out: &mut O, lines: &[Line]) -> Result<(), SinkError>

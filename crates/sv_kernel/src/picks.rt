@@ -1,22 +1,14 @@
 // Which side acts, and what the lists of choices pick there (IEEE 1800-2017, 4.7).
-ghost use Rattle.std.specs.Prelude.{◌≡◌, ◌<◌, ◌≤◌, ◌++◌, ◌+◌, ◌^◌, [], ℕ, OnOk, OnErr, IfOk, IsOk, IsNone, Some, None, length, ◌≢◌, true, false};
-ghost use Rattle.sv_value.specs.Regions.{pickable, is_bare, is_front_empty, job_count};
-ghost use Rattle.sv_flat.specs.declared.choices.Choices.{Choices};
-ghost use Rattle.sv_flat.specs.declared.design.Parts.{Parts};
-ghost use Rattle.sv_flat.specs.Config.{Config};
-ghost use Rattle.sv_flat.specs.Steps.{Begin_slot, Move_region, End_slot, Next_time, after, front, acting};
-ghost use Rattle.sv_flat.specs.Directed.{advanced, kind_at, kind_in_slot, place_among, place_on};
-ghost use Rattle.sv_flat.specs.Built.{IsBuilt, IsListed};
-ghost use Rattle.sv_flat.specs.Sound.{IsSound};
-ghost use Rattle.sv_kernel.specs.Frames.{stmts_left};
-ghost use Rattle.sv_kernel.specs.Machine.{Makes, AddsRecords, IsSteady};
-ghost use Rattle.sv_kernel.specs.Picks.{IsMoving, picked, idled, acting_side, acting_set, choices_of, used_in, with_used, numbers_for, place_for};
-ghost use Rattle.sv_kernel.specs.Log.{records_of};
+ghost use Rattle.std.specs.Prelude.{◌≡◌, ◌<◌, ◌+◌, ◌^◌, OnOk, None};
+ghost use Rattle.sv_value.specs.Regions.{pickable};
+ghost use Rattle.sv_flat.specs.Directed.{place_among, IsListed};
+ghost use Rattle.sv_built.specs.Built.{IsBuilt};
+ghost use Rattle.sv_machine.specs.Machine.{Makes, IsAt, IsSteady, SameMoment};
+ghost use Rattle.sv_kernel.specs.Picks.{picked, taken_from, SameNumbers, acting_side, acting_set, choices_of, used_in, with_used, numbers_for, place_for};
 
-use crate::assignments::do_job;
-use crate::machine::Machine;
-use crate::sides::other_side;
-use sv_flat::{Choices, Design};
+use sv_built::Design;
+use sv_flat::Choices;
+use sv_machine::{Machine, begin_process, do_job, other_side};
 use sv_sched::Picked;
 use sv_value::{NoMemory, Side};
 
@@ -44,8 +36,7 @@ pub fn take_pick(
     reactive: &Choices,
 ) -> Result<(), NoMemory>
     requires open { 0 < pickable (acting_set machine.old) }
-    requires used_active { machine.old.used_active + 1 < 2 ^ 64 }
-    requires used_reactive { machine.old.used_reactive + 1 < 2 ^ 64 }
+    requires idle { machine.old.running ≡ None }
     requires active { IsListed active.now }
     requires reactive { IsListed reactive.now }
     requires built { IsBuilt design.now }
@@ -54,14 +45,27 @@ pub fn take_pick(
     ensures time { machine.new.time ≡ machine.old.time }
 {
     let side = acting(machine);
-    let open = machine.regions.pickable(side);
-    let place = pick_on(machine, active, reactive, side, open);
+    let count = machine.regions.pickable(side);
+    let place = place_on(machine, active, reactive, side, count);
+    do_pick(machine, design, side, place)?;
     machine.executed = side;
+    count_used(machine, side, count);
+    Ok(())
+}
+
+/// What stands at a place of the front of the acting side is taken.
+fn do_pick(machine: &mut Machine, design: &Design, side: Side, place: u32) -> Result<(), NoMemory>
+    requires side { side ≡ acting_side machine.old }
+    requires within { place < pickable (acting_set machine.old) }
+    requires idle { machine.old.running ≡ None }
+    requires at { IsAt design.now machine.old }
+    requires built { IsBuilt design.now }
+    ensures done { OnOk result (Makes design.now machine.old machine.new (taken_from design.now place)) }
+    ensures numbers { OnOk result (SameNumbers machine.old machine.new) }
+    ensures moment { SameMoment machine.old machine.new }
+{
     match machine.regions.take(side, place) {
-        Picked::Process(process) => {
-            machine.running = Some(process);
-            Ok(())
-        }
+        Picked::Process(process) => begin_process(machine, design, process),
         Picked::Job(job) => {
             do_job(machine, design, &job)?;
             machine.spare.give(job);
@@ -71,41 +75,43 @@ pub fn take_pick(
 }
 
 /// The place that the list of a side picks.
-fn pick_on(
-    machine: &mut Machine,
-    active: &Choices,
-    reactive: &Choices,
-    side: Side,
-    count: u32,
-) -> u32
+fn place_on(machine: &Machine, active: &Choices, reactive: &Choices, side: Side, count: u32) -> u32
     requires some { 0 < count }
-    requires active { machine.old.used_active + 1 < 2 ^ 64 }
-    requires reactive { machine.old.used_reactive + 1 < 2 ^ 64 }
     requires active_listed { IsListed active.now }
     requires reactive_listed { IsListed reactive.now }
-    ensures place { result ≡ place_for side active.now reactive.now machine.old count }
+    ensures place { result ≡ place_for side active.now reactive.now machine.now count }
     ensures within { result < count }
-    ensures used { machine.new ≡ with_used side (numbers_for count) machine.old }
 {
     match side {
-        Side::Active => pick(active, &mut machine.used_active, count),
-        Side::Reactive => pick(reactive, &mut machine.used_reactive, count),
+        Side::Active => pick(active, machine.used_active, count),
+        Side::Reactive => pick(reactive, machine.used_reactive, count),
     }
 }
 
-/// The place that the next number picks among so many. Where there is no choice no number is used.
-fn pick(list: &Choices, used: &mut u64, count: u32) -> u32
+/// The place that the next number picks among so many.
+fn pick(list: &Choices, used: u64, count: u32) -> u32
     requires some { 0 < count }
-    requires used { used.old + 1 < 2 ^ 64 }
     requires listed { IsListed list.now }
-    ensures place { result ≡ place_among list.now used.old count }
+    ensures place { result ≡ place_among list.now used count }
     ensures within { result < count }
-    ensures used { used.new ≡ used.old + numbers_for count }
 {
     if count < 2 {
         return 0;
     }
-    let place = list.number(*used) % count;
-    *used += 1;
-    place
+    list.number(used) % count
+}
+
+/// The number that a pick among so many used is counted. Where there was no choice none was used.
+fn count_used(machine: &mut Machine, side: Side, count: u32)
+    requires active { machine.old.used_active + 1 < 2 ^ 64 }
+    requires reactive { machine.old.used_reactive + 1 < 2 ^ 64 }
+    ensures { machine.new ≡ with_used side (numbers_for count) machine.old }
+{
+    if count < 2 {
+        return;
+    }
+    match side {
+        Side::Active => machine.used_active += 1,
+        Side::Reactive => machine.used_reactive += 1,
+    }
 }

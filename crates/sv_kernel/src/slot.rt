@@ -1,26 +1,20 @@
 // The steps of a slot: it begins, processes and jobs have their turns, regions move, it ends (IEEE 1800-2017, 4.5).
-ghost use Rattle.std.specs.Prelude.{◌≡◌, ◌<◌, ◌≤◌, ◌++◌, ◌+◌, ◌^◌, [], ℕ, OnOk, OnErr, IfOk, IsOk, IsNone, Some, None, length, ◌≢◌, true, false};
-ghost use Rattle.sv_value.specs.Regions.{pickable, is_bare, is_front_empty, job_count};
-ghost use Rattle.sv_flat.specs.declared.choices.Choices.{Choices};
+ghost use Rattle.std.specs.Prelude.{◌≡◌, [], OnOk, OnErr, IfOk, IsOk, Some, None, ◌≢◌, true, false};
+ghost use Rattle.sv_value.specs.Regions.{is_front_empty};
 ghost use Rattle.sv_flat.specs.declared.design.Parts.{Parts};
-ghost use Rattle.sv_flat.specs.Config.{Config};
-ghost use Rattle.sv_flat.specs.Steps.{Begin_slot, Move_region, End_slot, Next_time, after, front, acting};
-ghost use Rattle.sv_flat.specs.Directed.{advanced, kind_at, kind_in_slot, place_among, place_on};
-ghost use Rattle.sv_flat.specs.Built.{IsBuilt, IsListed};
-ghost use Rattle.sv_flat.specs.Sound.{IsSound};
-ghost use Rattle.sv_kernel.specs.Frames.{stmts_left};
-ghost use Rattle.sv_kernel.specs.Machine.{Makes, AddsRecords, IsSteady};
-ghost use Rattle.sv_kernel.specs.Picks.{IsMoving, picked, idled, acting_side, acting_set, choices_of, used_in, with_used, numbers_for, place_for};
-ghost use Rattle.sv_kernel.specs.Log.{records_of};
+ghost use Rattle.sv_flat.specs.Steps.{Begin_slot, Move_region, End_slot, after, statement_ran};
+ghost use Rattle.sv_flat.specs.Directed.{advanced, IsListed};
+ghost use Rattle.sv_built.specs.Built.{IsBuilt};
+ghost use Rattle.sv_machine.specs.Machine.{Makes, IsAt, IsSteady, SameMoment};
+ghost use Rattle.sv_kernel.specs.Picks.{IsMoving, idled, acting_set};
+ghost use Rattle.sv_kernel.specs.Log.{AddsRecords};
 
-use crate::execute::run_statement;
 use crate::future::next_time;
-use crate::log::Line;
-use crate::machine::Machine;
 use crate::picks::{acting, take_pick};
-use crate::prints::print_strobes;
-use sv_flat::{Choices, Design};
-use sv_value::{NoMemory, Phase, Side};
+use sv_built::Design;
+use sv_flat::Choices;
+use sv_machine::{Line, Machine, print_strobes, run_statement};
+use sv_value::{NoMemory, Phase, ProcessId, Side};
 
 /// Makes the step that the lists direct, and gives what it prints.
 pub fn advance(
@@ -87,9 +81,28 @@ fn in_slot(
         return end_slot(machine, design);
     }
     match machine.running {
-        Some(process) => run_statement(machine, design, process),
+        Some(process) => step_running(machine, design, process),
         None => step_idle(machine, design, active, reactive),
     }
+}
+
+/// The next step of the process that runs. It gives what is printed.
+fn step_running(
+    machine: &mut Machine,
+    design: &Design,
+    process: ProcessId,
+) -> Result<Vec<Line>, NoMemory>
+    requires at { IsAt design.now machine.old }
+    requires running { machine.old.running ≡ Some process }
+    requires built { IsBuilt design.now }
+    ensures ok { OnOk result (Makes design.now machine.old machine.new (statement_ran design.now (Some process))) }
+    ensures lines { IfOk result (λ lines.
+        AddsRecords design.now machine.old (statement_ran design.now (Some process)) lines.items) }
+    ensures moment { SameMoment machine.old machine.new }
+{
+    let mut lines = Vec::new(machine.alloc);
+    run_statement(machine, design, process, &mut lines)?;
+    Ok(lines)
 }
 
 /// A step of a slot in which no process runs. It gives what is printed.
@@ -99,6 +112,7 @@ fn step_idle(
     active: &Choices,
     reactive: &Choices,
 ) -> Result<Vec<Line>, NoMemory>
+    requires idle { machine.old.running ≡ None }
     requires active { IsListed active.now }
     requires reactive { IsListed reactive.now }
     requires built { IsBuilt design.now }

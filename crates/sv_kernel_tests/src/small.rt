@@ -1,11 +1,12 @@
 // Small designs, made of a few statements.
 ghost use Rattle.std.specs.Prelude.{IfOk};
-ghost use Rattle.sv_flat.specs.Built.{IsListed};
+ghost use Rattle.sv_flat.specs.Directed.{IsListed};
 
 use std::alloc::{AllocError, Global};
+use sv_built::{Design, is_built};
 use sv_flat::{
-    Base, Choices, DataType, Design, Edge, Expr, ExprForm, Form, Home, Lvalue, Object, ObjectKind,
-    Parts, PrintKind, Process, ProcessKind, Routine, Scale, Stmt, Watch, is_built,
+    Base, Choices, DataType, Edge, Expr, ExprForm, Form, Home, Lvalue, Object, ObjectKind, Parts,
+    PrintKind, Process, ProcessKind, Routine, Scale, Stmt, Watch,
 };
 use sv_value::{
     BinOp, Bits, FormatField, Integral, NoMemory, ObjId, Pad, Piece, Place, Plain, Radix,

@@ -1,6 +1,6 @@
 -- An index of names grows with them, and finds what the definition finds; names stay where values change.
-use Rattle.std.proofs.Common.{◌≡◌, ℕ, suc, zero, ◌*◌, ◌^◌, ◌<◌, ◌≤◌, Bool, true, false, cond, List, [], ◌∷◌, ◌++◌, length, slice_get, Option, Some, None, option_map, is_some, IfSome, Vec, refl, sym, ap, subst, ◌∙◌, true≢false, arith}
-use Rattle.std.specs.Prelude.{get_or}
+use Rattle.std.proofs.Common.{◌≡◌, ℕ, suc, zero, ◌*◌, ◌^◌, ◌<◌, ◌≤◌, Bool, true, false, cond, List, [], ◌∷◌, ◌++◌, length, slice_get, Option, Some, None, option_map, is_some, IfSome, Vec, Global, refl, sym, ap, subst, ◌∙◌, true≢false, arith}
+use Rattle.std.specs.Prelude.{get_or, ◌||◌}
 use Rattle.std.proofs.Math.Nat.{mul-le-mul_right}
 use Rattle.std.proofs.lemmas.List.{length-map}
 use Rattle.std.proofs.lemmas.Option.{slice_get-get_or}
@@ -11,11 +11,12 @@ use Rattle.indexmap.proofs.CallerLemmas.{insert_entry-new}
 use Rattle.sv_names.specs.declared.named.Named.{Named}
 use Rattle.sv_names.specs.declared.named.Known.{Known}
 use Rattle.sv_names.specs.declared.checked.Checked.{Checked}
+use Rattle.sv_names.specs.declared.name_set.NameSet.{NameSet}
 use Rattle.sv_names.specs.Types.{same_bytes}
 use Rattle.sv_names.specs.Named.{further, local_size, Found, nearest, declared_in}
-use Rattle.sv_names.specs.Index.{names_of, first_of, places_from, IsIndexOf, more_values, with_values}
+use Rattle.sv_names.specs.Index.{names_of, first_of, places_from, IsIndexOf, has_name, more_values, with_values}
 
-chosen : (b : Bool) (v : ℕ) (r s o : Option ℕ) → r ≡ nearest s o → cond b (Some v) r ≡ nearest (cond b (Some v) s) o
+pub chosen : (b : Bool) (v : ℕ) (r s o : Option ℕ) → r ≡ nearest s o → cond b (Some v) r ≡ nearest (cond b (Some v) s) o
 chosen true v r s o h = refl
 chosen false v r s o h = h
 
@@ -24,7 +25,7 @@ lookup-append : {K : Type 0} (t : K → Bool) (es : List (K × ℕ)) (k : K) (v 
 lookup-append t [] k v = refl
 lookup-append t (e ∷ es) k v = chosen (t e.0) e.1 _ _ _ (lookup-append t es k v)
 
-behind : (r : Option ℕ) (b : Bool) (n : ℕ) → option_map suc (nearest r (cond b (Some n) None)) ≡ nearest (option_map suc r) (cond b (Some (suc n)) None)
+pub behind : (r : Option ℕ) (b : Bool) (n : ℕ) → option_map suc (nearest r (cond b (Some n) None)) ≡ nearest (option_map suc r) (cond b (Some (suc n)) None)
 behind (Some i) b n = refl
 behind None true n = refl
 behind None false n = refl
@@ -34,15 +35,15 @@ first_of-append x [] n = refl
 first_of-append x (m ∷ ns) n =
     chosen (same_bytes x m) 0 _ _ _ (ap (option_map suc) (first_of-append x ns n) ∙ behind (first_of x ns) (same_bytes x n) (length ns))
 
-nearest-none : (r : Option ℕ) → nearest r None ≡ r
+pub nearest-none : (r : Option ℕ) → nearest r None ≡ r
 nearest-none None = refl
 nearest-none (Some i) = refl
 
-nearest-some : (r o : Option ℕ) → is_some r ≡ true → nearest r o ≡ r
+pub nearest-some : (r o : Option ℕ) → is_some r ≡ true → nearest r o ≡ r
 nearest-some None o there = absurd (true≢false (sym there))
 nearest-some (Some i) o there = refl
 
-none_of : (r : Option ℕ) → is_some r ≡ false → r ≡ None
+pub none_of : (r : Option ℕ) → is_some r ≡ false → r ≡ None
 none_of None e = refl
 none_of (Some i) e = absurd (true≢false e)
 
@@ -64,6 +65,33 @@ module _ {A S : Type 0} (index : IndexMap (Vec ℕ A) ℕ S) (ns : List (List �
       ∙ lookup-append (λ k. same_bytes x k.items) index.entries k i
       ∙ (λ j. nearest (is x j) (cond (same_bytes x (named j)) (Some (sym long j)) None))
       ∙ sym (first_of-append x ns n)
+
+-- ---- sets
+
+or_some : (r : Option ℕ) (b : Bool) (v : ℕ) → is_some (nearest r (cond b (Some v) None)) ≡ (b || is_some r)
+or_some None true v = refl
+or_some None false v = refl
+or_some (Some i) true v = refl
+or_some (Some i) false v = refl
+
+module _ (set : NameSet) (n : List ℕ) where
+  -- a name that a set has does not change it
+  pub set-stays : has_name set n ≡ true → (x : List ℕ) → has_name set x ≡ (same_bytes x n || has_name set x)
+  set-stays there x = by (same_bytes x n) refl
+    where
+      by : (b : Bool) → same_bytes x n ≡ b → has_name set x ≡ (b || has_name set x)
+      by false e = refl
+      by true e = subst (λ y. has_name set y ≡ true) (sym ((bytes_decides x n).0 e)) there
+
+  -- a new one goes last
+  pub set-grows : (new : NameSet) (k : Vec ℕ Global) (i : ℕ) → k.items ≡ n → has_name set n ≡ false
+      → new.names.entries ≡ insert_entry (λ a b. same_bytes a.items b.items) set.names.entries k i
+      → (x : List ℕ) → has_name new x ≡ (same_bytes x n || has_name set x)
+  set-grows new k i named absent entries x =
+      ap is_some (ap (lookup (λ k. same_bytes x k.items)) (entries ∙ insert_entry-new (λ a b. same_bytes a.items b.items) set.names k i (ap (λ m. get_by (λ b. same_bytes m b.items) set.names) named ∙ none_of _ absent))
+      ∙ lookup-append (λ k. same_bytes x k.items) set.names.entries k i)
+      ∙ or_some (get_by (λ k. same_bytes x k.items) set.names) (same_bytes x k.items) i
+      ∙ ap (λ m. same_bytes x m || has_name set x) named
 
 -- ---- look-up
 

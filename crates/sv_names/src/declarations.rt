@@ -2,7 +2,7 @@
 ghost use Rattle.std.specs.Prelude.{◌≡◌, ◌++◌, ◌∷◌, [], IfOk, option_map};
 ghost use Rattle.std.specs.Vec.Iter.{into_iter_items};
 ghost use Rattle.sv_names.specs.Index as changed;
-ghost use Rattle.sv_names.specs.Index.{places_from, or_old, first_value, more_values};
+ghost use Rattle.sv_names.specs.Index.{places_from, or_old, first_value, more_values, is_block, some_block};
 ghost use Rattle.sv_names.specs.Named as names;
 ghost use Rattle.sv_names.specs.Views.{found_in};
 
@@ -18,6 +18,7 @@ pub struct Declarations {
     items: Seq<Known>,
     index: NameIndex,
     places: Seq<u32>,
+    has_block: bool,
 }
 
 impl Drop for Declarations {
@@ -26,6 +27,7 @@ impl Drop for Declarations {
             items: _,
             index: _,
             places: _,
+            has_block: _,
         } = self;
     }
 }
@@ -42,9 +44,9 @@ impl Model for Declarations {
 
     ghost view = { λ d. d.items };
 
-    ghost use Rattle.sv_names.specs.Index.{IsIndexOf, names_of, places_from};
+    ghost use Rattle.sv_names.specs.Index.{IsIndexOf, names_of, places_from, some_block};
 
-    ghost invariant = { λ d. IsIndexOf d.index (names_of d.items) × (d.places ≡ places_from 0 d.items) };
+    ghost invariant = { λ d. IsIndexOf d.index (names_of d.items) × (d.places ≡ places_from 0 d.items) × (d.has_block ≡ some_block d.items) };
 }
 
 impl Declarations {
@@ -54,10 +56,12 @@ impl Declarations {
     {
         let index = index_of(alloc, known.as_slice())?;
         let places = places_of(alloc, known.as_slice())?;
+        let has_block = has_block(known.as_slice());
         Ok(Declarations {
             items: known,
             index,
             places,
+            has_block,
         })
     }
 
@@ -69,6 +73,7 @@ impl Declarations {
             mut items,
             index: _,
             places: _,
+            has_block: _,
         } = self;
         items.push(last)?;
         Declarations::new(alloc, items)
@@ -79,6 +84,13 @@ impl Declarations {
         ensures { result.now ≡ self.now }
     {
         self.items.as_slice()
+    }
+
+    /// Whether one of them is a clocking block.
+    pub fn has_block(&self) -> bool
+        ensures { result ≡ some_block self.now }
+    {
+        self.has_block
     }
 
     /// The same declarations with other values, where there are such.
@@ -93,13 +105,16 @@ impl Declarations {
             items,
             index,
             places: _,
+            has_block: _,
         } = self;
         let items = with_values(alloc, items, values)?;
         let places = places_of(alloc, items.as_slice())?;
+        let has_block = has_block(items.as_slice());
         Ok(Declarations {
             items,
             index,
             places,
+            has_block,
         })
     }
 }
@@ -121,6 +136,25 @@ pub fn declared_in<'a>(up: u32, name: &[u8], known: &'a Declarations) -> Option<
             })
         }
     }
+}
+
+/// Whether it is a clocking block.
+fn is_block(value: &Checked<Named>) -> bool
+    ensures { result ≡ is_block value.now }
+{
+    matches!(value, Checked::Good(Named::ClockingBlock(_, _)))
+}
+
+/// Whether one of these declarations is.
+fn has_block(known: &[Known]) -> bool
+    ensures { result ≡ some_block known.now }
+{
+    for declaration in known {
+        if is_block(&declaration.value) {
+            return true;
+        }
+    }
+    false
 }
 
 /// Where the variables of each declaration stand.

@@ -1,2 +1,4 @@
 pub mod SlotLemmas
 pub mod FirstLemmas
+pub mod PartLaws
+pub mod WriteLaws

@@ -7,7 +7,7 @@ use Rattle.sv_flat.specs.declared.object.Object.{Object}
 use Rattle.sv_flat.specs.declared.object.ObjectKind.{ObjectKind}
 use Rattle.sv_flat.specs.declared.object.ObjectKind.TheVariants as kind
 use Rattle.sv_flat.specs.State.{Store, first_value}
-use Rattle.sv_flat.specs.Built.{IsWidth}
+use Rattle.sv_flat.specs.Contexts.{IsWidth}
 use Rattle.sv_flat.specs.Eval.{type_width}
 use Rattle.sv_flat.specs.Opening.{stored, elements_of}
 

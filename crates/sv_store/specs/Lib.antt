@@ -1,3 +1,4 @@
 pub mod Objects
 pub mod First
 pub mod Forms
+pub mod Overwrites

@@ -31,3 +31,13 @@ pub struct Change {
     /// The value after, likewise.
     pub new: Val,
 }
+
+/// An element or a net that a write changed: what it held before.
+#[derive(Drop)]
+pub struct Overwritten {
+    pub object: ObjId,
+    /// The number of the element of a variable; of a net, of the driver that was written.
+    pub element: u32,
+    /// The value of that element, or of the net, before the write.
+    pub old: Val,
+}

@@ -1,26 +1,28 @@
 // What one object holds.
-ghost use Rattle.std.specs.Prelude.{◌≡◌, ◌<◌, ◌≤◌, false, length, replicate, slice_index_or, IfOk, None};
+ghost use Rattle.std.specs.Prelude.{◌≡◌, ◌≢◌, ◌<◌, ◌≤◌, ◌∷◌, [], ℕ, false, length, replicate, slice_index_or, IfOk, IfSome, IfNone, OnOk, OnErr, None};
 ghost use Rattle.std.specs.List.{AllByRecursion};
 ghost use Rattle.sv_value.specs.declared.val.Val.TheVariants.{Bits as bits};
 ghost use Rattle.sv_value.specs.declared.word.Sym.TheVariants.{Z};
 ghost use Rattle.sv_value.specs.declared.word.TheConstants.{WIDEST};
 ghost use Rattle.sv_value.specs.Vector.{vector};
 ghost use Rattle.sv_flat.specs.State.{element_of, first_value, net_value, no_value};
-ghost use Rattle.sv_flat.specs.State.{Net as Net_held};
+ghost use Rattle.sv_flat.specs.State.{Elements as Elements_held, Net as Net_held};
 ghost use Rattle.sv_flat.specs.Opening.{stored};
 ghost use Rattle.sv_flat.specs.Effects.Writes.{changed_at, stored_over, value_over, vector_over};
 ghost use Rattle.sv_flat.specs.Eval.{type_width};
-ghost use Rattle.sv_flat.specs.Built.{IsWidth};
+ghost use Rattle.sv_flat.specs.Contexts.{IsWidth};
 ghost use Rattle.sv_store.specs.First.{IsStorable};
 ghost use Rattle.sv_store.specs.Objects.{IsBits, IsWide, HasElement, HasDriver};
+ghost use Rattle.sv_store.specs.Overwrites.{held_before, IsOver, IsSame};
 
 use crate::first::{element_count, first_elements};
 use crate::net::{resolved_value, undriven};
+use crate::part::{value_over, vector_over};
 use std::alloc::Global;
 use std::marker::Model;
 use std::mem::replace;
 use sv_flat::{DataType, Object, ObjectKind};
-use sv_value::{Bits, NoMemory, Plain, Val};
+use sv_value::{Bits, NoMemory, Plain, Range, Val};
 
 /// The elements of a variable; or the width of a net, a vector for each of its drivers, and what they resolve to.
 #[derive(Drop)]
@@ -155,6 +157,174 @@ impl Slot {
             }
             Form::Elements(_) => unreachable!(),
         }
+    }
+
+    /// An object with a single element.
+    pub fn single(alloc: Global, value: Val) -> Result<Slot, NoMemory>
+        ensures { IfOk result (λ s. s ≡ Elements_held (value ∷ [])) }
+    {
+        let mut elements = Vec::new(alloc);
+        elements.push(value)?;
+        Ok(Slot {
+            form: Form::Elements(elements),
+        })
+    }
+
+    /// What an element holds, or the value of a net; a null reference where there is no such element.
+    pub fn read(&self, alloc: Global, i: u64) -> Result<Val, NoMemory>
+        ensures { IfOk result (λ v. v ≡ element_of self.now i) }
+    {
+        match &self.form {
+            Form::Elements(elements) => copy_at(alloc, elements, i),
+            Form::Net { value, .. } => Ok(Val::Bits(*value)),
+        }
+    }
+
+    /// What an element held before its element i, or a driver, was written over this old value.
+    pub fn read_before(&self, alloc: Global, i: u32, old: &Val, j: u64) -> Result<Val, NoMemory>
+        ensures { IfOk result (λ v. v ≡ held_before self.now i old.now j) }
+    {
+        match &self.form {
+            Form::Elements(elements) => {
+                if j == u64::from(i) {
+                    old.copy(alloc)
+                } else {
+                    copy_at(alloc, elements, j)
+                }
+            }
+            Form::Net { .. } => old.copy(alloc),
+        }
+    }
+
+    /// Writes an element, or a driver of a net, or a part of it. Where the element or the value of the net is another one then, hands
+    /// the old value back. Memory is wanting where a whole driver has another width than the net.
+    pub fn write(
+        &mut self,
+        i: u32,
+        part: Option<Range>,
+        value: Val,
+    ) -> Result<Option<Val>, NoMemory>
+        ensures new { OnOk result (self.new ≡ stored_over i part value self.old) }
+        ensures err { OnErr result (self.new ≡ self.old) }
+        ensures some { IfOk result (λ o. IfSome o (λ old. IsOver self.old self.new i old)) }
+        ensures differs { IfOk result (λ o. IfSome o (λ old. old ≢ element_of self.new i)) }
+        ensures none { IfOk result (λ o. IfNone o (IsSame self.old self.new)) }
+    {
+        match &mut self.form {
+            Form::Elements(elements) => Ok(write_element(elements, i, part, value)),
+            Form::Net {
+                width,
+                drivers,
+                value: kept,
+            } => write_driver(*width, drivers, kept, i, part, value),
+        }
+    }
+}
+
+/// What stands at a place; a null reference where nothing does.
+fn copy_at(alloc: Global, elements: &[Val], i: u64) -> Result<Val, NoMemory>
+    ensures { IfOk result (λ v. v ≡ slice_index_or elements.now i no_value) }
+{
+    match elements.get(i as usize) {
+        Some(value) => value.copy(alloc),
+        None => Ok(Val::Object(None)),
+    }
+}
+
+/// Writes an element that is there, and hands its old value back where that is another one.
+fn put_element(elements: &mut Vec<Val>, i: u32, value: Val) -> Option<Val>
+    requires { i < length elements.old.items }
+    ensures new { elements.new.items ≡ changed_at elements.old.items i (λ _. value) }
+    ensures some { IfSome result (λ old. IsOver (Elements_held elements.old.items) (Elements_held elements.new.items) i old) }
+    ensures differs { IfSome result (λ old. old ≢ slice_index_or elements.new.items i no_value) }
+    ensures none { IfNone result (IsSame (Elements_held elements.old.items) (Elements_held elements.new.items)) }
+{
+    let old = replace_at(elements, i, value);
+    if old.equals(&elements[i as usize]) {
+        None
+    } else {
+        Some(old)
+    }
+}
+
+/// Writes an element, or a part of it, and hands its old value back where that is another one.
+fn write_element(elements: &mut Vec<Val>, i: u32, part: Option<Range>, value: Val) -> Option<Val>
+    ensures new { elements.new.items ≡ changed_at elements.old.items i (λ v. value_over v part value) }
+    ensures some { IfSome result (λ old. IsOver (Elements_held elements.old.items) (Elements_held elements.new.items) i old) }
+    ensures differs { IfSome result (λ old. old ≢ slice_index_or elements.new.items i no_value) }
+    ensures none { IfNone result (IsSame (Elements_held elements.old.items) (Elements_held elements.new.items)) }
+{
+    if i as usize >= elements.len() {
+        return None;
+    }
+    match value_over(&elements[i as usize], part, value) {
+        None => None,
+        Some(value) => put_element(elements, i, value),
+    }
+}
+
+/// Writes a driver of a net, or a part of it, and hands the old value of the net back where that is another one. Memory is wanting
+/// where the driver would have another width.
+fn write_driver(
+    width: u32,
+    drivers: &mut Vec<Bits>,
+    kept: &mut Bits,
+    i: u32,
+    part: Option<Range>,
+    value: Val,
+) -> Result<Option<Val>, NoMemory>
+    requires at_least_one { 1 ≤ width }
+    requires fits { width ≤ WIDEST }
+    requires each_wide { AllByRecursion (IsWide width) drivers.old.items }
+    requires resolved { kept.old ≡ net_value width drivers.old.items }
+    ensures new { OnOk result (drivers.new.items ≡ changed_at drivers.old.items i (λ v. vector_over v part value)) }
+    ensures err { OnErr result (drivers.new.items ≡ drivers.old.items) }
+    ensures each_wide { AllByRecursion (IsWide width) drivers.new.items }
+    ensures resolved { kept.new ≡ net_value width drivers.new.items }
+    ensures some { IfOk result (λ o. IfSome o (λ old. bits (net_value width drivers.old.items) ≡ old)) }
+    ensures differs { IfOk result (λ o. IfSome o (λ old. old ≢ bits (net_value width drivers.new.items))) }
+    ensures none { IfOk result (λ o. IfNone o (net_value width drivers.new.items ≡ net_value width drivers.old.items)) }
+{
+    if i as usize >= drivers.len() {
+        return Ok(None);
+    }
+    match vector_over(drivers[i as usize], part, &value) {
+        None => Ok(None),
+        Some(given) => put_driver(width, drivers, kept, i, given),
+    }
+}
+
+/// Writes a driver that is there, and hands the old value of the net back where that is another one.
+fn put_driver(
+    width: u32,
+    drivers: &mut Vec<Bits>,
+    kept: &mut Bits,
+    i: u32,
+    given: Bits,
+) -> Result<Option<Val>, NoMemory>
+    requires at_least_one { 1 ≤ width }
+    requires fits { width ≤ WIDEST }
+    requires there { i < length drivers.old.items }
+    requires each_wide { AllByRecursion (IsWide width) drivers.old.items }
+    requires resolved { kept.old ≡ net_value width drivers.old.items }
+    ensures new { OnOk result (drivers.new.items ≡ changed_at drivers.old.items i (λ _. given)) }
+    ensures err { OnErr result (drivers.new.items ≡ drivers.old.items) }
+    ensures each_wide { AllByRecursion (IsWide width) drivers.new.items }
+    ensures resolved { kept.new ≡ net_value width drivers.new.items }
+    ensures some { IfOk result (λ o. IfSome o (λ old. bits (net_value width drivers.old.items) ≡ old)) }
+    ensures differs { IfOk result (λ o. IfSome o (λ old. old ≢ bits (net_value width drivers.new.items))) }
+    ensures none { IfOk result (λ o. IfNone o (net_value width drivers.new.items ≡ net_value width drivers.old.items)) }
+{
+    if given.width() != width {
+        return Err(NoMemory::Memory);
+    }
+    let before = *kept;
+    let after = driven_value(width, drivers, i, given);
+    *kept = after;
+    if before.equals(&after) {
+        Ok(None)
+    } else {
+        Ok(Some(Val::Bits(before)))
     }
 }
 

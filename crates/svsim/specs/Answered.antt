@@ -1,18 +1,22 @@
 -- What is left where the words are answered, up to the closing line: a working form, not needed to know what a call leaves.
-use Rattle.std.specs.Prelude.{ℕ, ◌≡◌, ◌≢◌, ◌<◌, ◌++◌, true, codes, List, [], Option, Some, Result, Err, IfOk, IsErrOf, string_bytes, ◌⊎◌}
+use Rattle.std.specs.Prelude.{ℕ, ◌≡◌, ◌≢◌, ◌<◌, ◌≤◌, ◌+◌, ◌++◌, true, codes, length, List, [], Option, Some, IsSome, Result, Ok, Err, IfOk, IsErrOf, Vec, string_bytes, ◌⊎◌}
+use Rattle.std.specs.Global.{Global}
 use Rattle.sv_io.specs.Faults.{Rose}
-use Rattle.sv_io.specs.Outside.{appended}
+use Rattle.sv_io.specs.Outside.{appended, file_at}
 use mathlib.Core.List.{IsPrefix}
 use Rattle.sv_flat.specs.declared.design.Parts.{Parts}
 use Rattle.sv_flat.specs.Config.{Record}
 use Rattle.sv_flat.specs.Directed.{log_of, log_text}
+use Rattle.svsim.specs.declared.answer.FetchFault.{FetchFault}
+use Rattle.svsim.specs.declared.answer.FetchFault.TheVariants as fetch
 use Rattle.svsim.specs.declared.run.Closing.{Closing}
 use Rattle.svsim.specs.declared.run.Cut.{Cut}
 use Rattle.svsim.specs.declared.run.Cut.TheVariants.{LogFailed, Memory}
-use Rattle.svsim.specs.Said.{Said, Limits, Files, Says, IsLine, line, run_of}
-use Rattle.svsim.specs.Simulated.{NoFault, IsPrefixOfRecords, AreRecords, IsAllSaid, NamesFile}
-use Rattle.svsim.specs.Source.{IsSource}
-use Rattle.svsim.specs.Words.{Asked, asked}
+use Rattle.svsim.specs.declared.words.Limits.{Limits}
+use Rattle.svsim.specs.Said.{Said, Files, Has, IsTurn, Says, IsLine, line, run_of}
+use Rattle.svsim.specs.Simulated.{NoFault, IsPrefixOfRecords, AreRecords, IsAllSaid, Awaits, NamesFile}
+use Rattle.svsim.specs.Source.{bytes_of, contents, IsSource}
+use Rattle.svsim.specs.Words.{Asked}
 
 -- what is seen of a shelf over a call: its files, its faults before and after, and the name for which it failed last
 pub record ShelfSeen : Type 0 where
@@ -42,25 +46,34 @@ Gives says o c = (said : Said) × says said × (o.new ≡ appended o.old said.re
 
 -- the words ask for a file, which could not be read, and nothing was put
 pub record IsNotRead (l : Limits) (words : List (List ℕ)) (s : ShelfSeen) (o : LogSeen) (c : Closing) : Type 0 where
-  pub simulation : Asked
-  pub asks : asked l.steps words ≡ Some simulation
-  pub name : s.failed ≡ Some simulation.file
-  pub line_is : string_bytes c.line ≡ line (simulation.file ++ codes ": not read")
+  pub name : List ℕ
+  pub awaits : Awaits l words s.files name
+  pub failed : s.failed ≡ Some name
+  pub line_is : string_bytes c.line ≡ line (name ++ codes ": not read")
   pub status_is : c.status ≡ 5
   pub nothing : o.new ≡ o.old
 
--- records of the run of the text were put: a prefix of them
-abbrev pub PutsRecords : Asked → List ℕ → LogSeen → Type 0
-PutsRecords a text o =
-    (records : List ℕ) × ((records ≡ []) ⊎ ((d : Parts) × IsSource text a.top d × IsPrefix records (log_text true (run_of a.active a.steps d))))
+-- files with these names were fetched, in their order and within a limit, or the one whose turn it was is named
+abbrev pub Fetched : (limit : ℕ) → (names : List (List ℕ)) → ShelfSeen → Result (Vec (Vec ℕ Global) Global) FetchFault → Type 0
+Fetched limit names s (Ok texts) = Has s.files names (contents texts.items) × (bytes_of (contents texts.items) ≤ limit) × (s.after ≡ s.before)
+Fetched limit names s (Err (fetch.Long name)) =
+    (turn : IsTurn s.files limit names name.now) × (text : List ℕ) × (IsSome s.files → file_at s.files name.now ≡ Some text)
+    × (limit < bytes_of turn.fetched + length text) × (s.after ≡ s.before)
+Fetched limit names s (Err (fetch.Failed name)) = IsTurn s.files limit names name.now × Rose s.before s.after × (s.failed ≡ Some name.now)
+Fetched limit names s (Err fetch.Memory) = s.after ≡ s.before
+
+-- records of the run of the texts were put: a prefix of them
+abbrev pub PutsRecords : Asked → List (List ℕ) → LogSeen → Type 0
+PutsRecords a texts o =
+    (records : List ℕ) × ((records ≡ []) ⊎ ((d : Parts) × IsSource texts a.top d × IsPrefix records (log_text true (run_of a.active a.steps d))))
     × (o.new ≡ appended o.old records)
 
--- the first records of the run of the text were put, each whole
-abbrev pub PutsWhole : Asked → List ℕ → LogSeen → Type 0
-PutsWhole a text o =
+-- the first records of the run of the texts were put, each whole
+abbrev pub PutsWhole : Asked → List (List ℕ) → LogSeen → Type 0
+PutsWhole a texts o =
     (bytes : List ℕ)
     × ((bytes ≡ [])
-    ⊎ ((d : Parts) × IsSource text a.top d × (rs : List Record) × IsPrefix rs (run_of a.active a.steps d).records × (bytes ≡ log_of true rs)))
+    ⊎ ((d : Parts) × IsSource texts a.top d × (rs : List Record) × IsPrefix rs (run_of a.active a.steps d).records × (bytes ≡ log_of true rs)))
     × (o.new ≡ appended o.old bytes)
 
 -- a call gives a closing, or tells what cut it short
@@ -74,7 +87,7 @@ pub record Closes (o : LogSeen) (r : Result Closing Cut) : Type 0 where
 pub record Answers (l : Limits) (words : List (List ℕ)) (s : ShelfSeen) (o : LogSeen) (r : Result Closing Cut) : Type 0 where
   pub said : IfOk r (λ c. NoFault s.before s.after → Gives (Says l words s.files) o c)
   pub not_read : IfOk r (λ c. s.after ≢ s.before → IsNotRead l words s o c)
-  pub shelf : s.after ≢ s.before → Rose s.before s.after × NamesFile l words s.failed
+  pub shelf : s.after ≢ s.before → Rose s.before s.after × NamesFile l words s.files s.failed
   pub put : (records : List ℕ) × IsPrefixOfRecords l words s.files records × (o.new ≡ appended o.old records)
   pub memory : IsErrOf r Memory → (records : List ℕ) × AreRecords l words s.files records × (o.new ≡ appended o.old records)
   pub all : IfOk r (λ c. (records : List ℕ) × IsAllSaid l words s.files records (string_bytes c.line) × (o.new ≡ appended o.old records))

@@ -5,7 +5,8 @@ use Rattle.sv_io.specs.Outside.{appended}
 use mathlib.Core.List.{IsPrefix}
 use Rattle.sv_flat.specs.Config.{Config, Record}
 use Rattle.sv_flat.specs.Directed.{log_of}
-use Rattle.svsim.specs.Said.{Said, Limits, Files, Says, Runs, line, IsPrefixOfLine}
+use Rattle.svsim.specs.declared.words.Limits.{Limits}
+use Rattle.svsim.specs.Said.{Said, Files, IsTurn, Says, Runs, line, IsPrefixOfLine}
 use Rattle.svsim.specs.Words.{Asked, asked}
 
 -- the words, as texts
@@ -15,6 +16,10 @@ texts words = map string_bytes words.items
 -- no fault came: a count that stands so high may stay where it is
 abbrev pub NoFault : (before after : ℕ) → Type 0
 NoFault before after = (before < 2 ^ 63) × (after ≡ before)
+
+-- the words ask for files, and it is this one's turn to be fetched
+abbrev pub Awaits : Limits → List (List ℕ) → Files → (name : List ℕ) → Type 0
+Awaits l words files name = (a : Asked) × (asked l words ≡ Some a) × IsTurn files l.bytes a.files name
 
 -- ---- the log
 
@@ -40,7 +45,7 @@ PutsPrefix l words files old new =
 -- all the records that are to be put, and the closing line
 pub data IsAllSaid (l : Limits) (words : List (List ℕ)) (files : Files) : (records closing : List ℕ) → Type 0 where
   whole : {said : Said} → Says l words files said → IsAllSaid l words files said.records said.closing
-  not_read : (a : Asked) → asked l.steps words ≡ Some a → IsAllSaid l words files [] (line (a.file ++ codes ": not read"))
+  not_read : (name : List ℕ) → Awaits l words files name → IsAllSaid l words files [] (line (name ++ codes ": not read"))
 
 -- What a log has that failed: of the records those up to one that was not put whole, or all of them and a prefix of the closing line;
 -- where memory ran out before, the first records, each whole, and a prefix of the line that says so.
@@ -59,11 +64,11 @@ IsOutOfMemory l words files old new =
 
 -- ---- the shelf
 
--- the file that the words ask for is the one for which the shelf failed
-abbrev pub NamesFile : Limits → List (List ℕ) → (failed : Option (List ℕ)) → Type 0
-NamesFile l words failed = (a : Asked) × (asked l.steps words ≡ Some a) × (failed ≡ Some a.file)
+-- the file for which the shelf failed is one that the words ask for, whose turn it was
+abbrev pub NamesFile : Limits → List (List ℕ) → Files → (failed : Option (List ℕ)) → Type 0
+NamesFile l words files failed = (name : List ℕ) × Awaits l words files name × (failed ≡ Some name)
 
 -- the line was put that says that this file could not be read
-abbrev pub PutsNotRead : Limits → List (List ℕ) → (failed : Option (List ℕ)) → (old new : Option (List ℕ)) → Type 0
-PutsNotRead l words failed old new =
-    (a : Asked) × (asked l.steps words ≡ Some a) × (failed ≡ Some a.file) × (new ≡ appended old (line (a.file ++ codes ": not read")))
+abbrev pub PutsNotRead : Limits → List (List ℕ) → Files → (failed : Option (List ℕ)) → (old new : Option (List ℕ)) → Type 0
+PutsNotRead l words files failed old new =
+    (name : List ℕ) × Awaits l words files name × (failed ≡ Some name) × (new ≡ appended old (line (name ++ codes ": not read")))

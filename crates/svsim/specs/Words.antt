@@ -1,18 +1,24 @@
 -- What the words of the command line ask for.
-use Rattle.std.specs.Prelude.{ℕ, ◌^◌, ◌-◌, Bool, false, not, ◌==◌, ◌&&◌, List, [], ◌∷◌, Option, None, Some, nat_le, length, codes, option_and_then, option_map, string_bytes, if◌then◌else◌}
+use Rattle.std.specs.Prelude.{ℕ, ◌^◌, ◌-◌, Bool, false, not, ◌==◌, ◌&&◌, List, [], ◌∷◌, Option, None, Some, nat_le, nat_lt, length, take, drop, map, codes, option_and_then, option_map, string_bytes, if◌then◌else◌}
+use Rattle.std.specs.List.{prefix_len}
 use Rattle.std.specs.Str.{bytes_eq}
 use Rattle.svsim.specs.Digits.{is_number, number_of}
+use Rattle.svsim.specs.declared.words.Limits.{Limits}
 use Rattle.svsim.specs.declared.words.Simulation.{Simulation}
 use Rattle.svsim.specs.declared.words.Task.{Task}
 use Rattle.svsim.specs.declared.words.Task.TheVariants.{Run}
 
--- a run of a file, under the unit that is named or under all that are nowhere instantiated, with the numbers of the Active list, and at most so
--- many steps
+-- a run of the design of these files, under the unit that is named or under all that are nowhere instantiated, with the numbers of the Active list,
+-- and at most so many steps
 pub record Asked : Type 0 where
-  pub file : List ℕ
+  pub files : List (List ℕ)
   pub top : Option (List ℕ)
   pub active : List ℕ
   pub steps : ℕ
+
+-- at most so many files may be named
+abbrev pub MOST_FILES : ℕ
+MOST_FILES = 1000
 
 -- ---- numbers
 
@@ -59,6 +65,18 @@ abbrev pub is_option : List ℕ → Bool
 is_option [] = false
 is_option (b ∷ bs) = b == 45
 
+-- a word that is no option
+abbrev pub is_name : List ℕ → Bool
+is_name w = not (is_option w)
+
+-- the words before the first that begins with `-`
+abbrev pub names_in : List (List ℕ) → List (List ℕ)
+names_in words = take (prefix_len is_name words) words
+
+-- that word and those behind it
+abbrev pub behind_names : List (List ℕ) → List (List ℕ)
+behind_names words = drop (prefix_len is_name words) words
+
 -- the first words are `--top NAME`, where NAME does not begin with `-`
 abbrev pub names_top : (w name : List ℕ) → Bool
 names_top w name = bytes_eq w (codes "--top") && not (is_option name)
@@ -84,32 +102,37 @@ behind_list (w ∷ l ∷ rest) = if bytes_eq w (codes "--active") then rest else
 behind_list words = words
 
 -- `[--steps N]`
-abbrev pub steps_in : (most : ℕ) → List (List ℕ) → Option ℕ
-steps_in most [] = Some most
-steps_in most (w ∷ n ∷ []) = if bytes_eq w (codes "--steps") then number_within most n else None
-steps_in most _ = None
+abbrev pub steps_in : Limits → List (List ℕ) → Option ℕ
+steps_in l [] = Some l.usual_steps
+steps_in l (w ∷ n ∷ []) = if bytes_eq w (codes "--steps") then number_within l.most_steps n else None
+steps_in l _ = None
 
--- `[--active L] [--steps N]`, behind a file and the name of its root
-abbrev pub asked_under : (most : ℕ) → (file : List ℕ) → (top : Option (List ℕ)) → List (List ℕ) → Option Asked
-asked_under most file top options =
+-- `[--active L] [--steps N]`, behind the files and the name of their root
+abbrev pub asked_under : Limits → (files : List (List ℕ)) → (top : Option (List ℕ)) → List (List ℕ) → Option Asked
+asked_under l files top options =
     option_and_then
-    (λ active. option_map (λ steps. record { file = file; top = top; active = active; steps = steps }) (steps_in most (behind_list options)))
+    (λ active. option_map (λ steps. record { files = files; top = top; active = active; steps = steps }) (steps_in l (behind_list options)))
     (choice_list (list_in options))
 
--- `FILE [--top NAME] [--active L] [--steps N]`
-abbrev pub asked_of : (most : ℕ) → (file : List ℕ) → List (List ℕ) → Option Asked
-asked_of most file options = asked_under most file (top_in options) (behind_top options)
+-- `[--top NAME] [--active L] [--steps N]`, behind the files
+abbrev pub asked_of : Limits → (files : List (List ℕ)) → List (List ℕ) → Option Asked
+asked_of l files options = asked_under l files (top_in options) (behind_top options)
 
--- `run FILE [--top NAME] [--active L] [--steps N]`, where FILE does not begin with `-`
-abbrev pub asked : (most : ℕ) → List (List ℕ) → Option Asked
-asked most (command ∷ file ∷ options) = if bytes_eq command (codes "run") && not (is_option file) then asked_of most file options else None
-asked most _ = None
+-- one file or more, but not too many
+abbrev pub are_files : List (List ℕ) → Bool
+are_files files = nat_lt 0 (length files) && nat_le (length files) MOST_FILES
+
+-- `run FILE.. [--top NAME] [--active L] [--steps N]`, where no FILE begins with `-`
+abbrev pub asked : Limits → List (List ℕ) → Option Asked
+asked l [] = None
+asked l (command ∷ words) =
+    if bytes_eq command (codes "run") && are_files (names_in words) then asked_of l (names_in words) (behind_names words) else None
 
 -- ---- what is read
 
 -- what a simulation is asked for by
 abbrev pub asked_for : Simulation → Asked
-asked_for s = record { file = string_bytes s.file; top = option_map string_bytes s.top; active = s.active; steps = s.steps }
+asked_for s = record { files = map string_bytes s.files.now; top = option_map (λ x. x.now) s.top; active = s.active; steps = s.steps }
 
 -- what a task asks for
 abbrev pub asked_by : Task → Asked

@@ -1,12 +1,14 @@
-// From the text of a file to its design.
-ghost use Rattle.std.specs.Prelude.{◌≡◌, ◌≤◌, ◌^◌, IfOk, IfErr, length, map, option_map};
+// From the texts of files to their design.
+ghost use Rattle.std.specs.Prelude.{◌≡◌, ◌≤◌, ◌<◌, ◌+◌, ◌^◌, ◌++◌, List, IfOk, IfErr, OnOk, length, map, option_map};
+ghost use Rattle.sv_tree.specs.Descriptions.{Description as Tree};
+ghost use Rattle.sv_tree.specs.Lexing.{scales as scales_in};
 ghost use Rattle.sv_tree.specs.UnitView.{description as file_tree};
-ghost use Rattle.svsim.specs.Source.{IsSource, IsDesign, Declines, Explains, of_lexical, of_refusal, of_syntax, refusal_text, syntax_text};
+ghost use Rattle.svsim.specs.Source.{bytes_of, contents, IsParsed, IsUnread, AreParsed, FirstUnread, IsSource, IsDesign, Declines, Explains, scales_of, of_lexical, of_refusal, of_syntax, refusal_text, syntax_text};
 ghost use Rattle.svsim.specs.declared.front.FrontFault.TheVariants.{Memory};
 
 use std::alloc::{AllocError, AllocFailed, Global};
+use sv_built::{Design, is_built};
 use sv_elab_design::elaborate;
-use sv_flat::{Design, is_built};
 use sv_lex::{LexFault, lex};
 use sv_names::Refusal;
 use sv_parse::{SyntaxFault, SyntaxKind};
@@ -15,7 +17,7 @@ use sv_tree::{Description, Refused, Timescale};
 use sv_value::Place;
 use thiserror::Error;
 
-/// Why a file has no design.
+/// Why files have no design.
 #[derive(Clone, Copy, Debug, PartialEq, Eq, Error)]
 pub enum FrontFault {
     /// No token can be read at a place (IEEE 1800-2017, 5).
@@ -108,7 +110,52 @@ pub fn syntax_text(kind: SyntaxKind) -> &'static str
     }
 }
 
-/// The design of the units of a file under the one that is named or under all that are nowhere instantiated, or why they have none.
+/// Reads the text of the file with this number, and puts its units and time scales behind those of the files before.
+fn read_text(
+    alloc: Global,
+    file: u16,
+    text: &[u8],
+    units: &mut Vec<Description>,
+    scales: &mut Vec<Timescale>,
+) -> Result<(), FrontFault>
+    requires { length text.now ≤ 2 ^ 23 }
+    ensures units { OnOk result ((us : List Tree) × IsParsed file text.now us
+        × (map file_tree units.new.items ≡ map file_tree units.old.items ++ us)) }
+    ensures scales { OnOk result (scales.new.items ≡ scales.old.items ++ scales_in file text.now) }
+    ensures fault { IfErr result (IsUnread file text.now) }
+{
+    let mut lexed = lex(alloc, file, text)?;
+    let mut parsed = parse(alloc, &lexed.tokens)?;
+    units.append(&mut parsed)?;
+    scales.append(&mut lexed.scales)?;
+    Ok(())
+}
+
+/// Reads the texts of the files from this number on, one after another.
+fn read_texts(
+    alloc: Global,
+    file: u16,
+    texts: &[Vec<u8>],
+    units: &mut Vec<Description>,
+    scales: &mut Vec<Timescale>,
+) -> Result<(), FrontFault>
+    requires few { file + length texts.now < 2 ^ 16 }
+    requires short { bytes_of (contents texts.now) ≤ 2 ^ 23 }
+    ensures units { OnOk result ((us : List Tree) × AreParsed file (contents texts.now) us
+        × (map file_tree units.new.items ≡ map file_tree units.old.items ++ us)) }
+    ensures scales { OnOk result (scales.new.items ≡ scales.old.items ++ scales_of file (contents texts.now)) }
+    ensures fault { IfErr result (FirstUnread file (contents texts.now)) }
+{
+    match texts {
+        [] => Ok(()),
+        [text, others @ ..] => {
+            read_text(alloc, file, text, units, scales)?;
+            read_texts(alloc, file + 1, others, units, scales)
+        }
+    }
+}
+
+/// The design of units under the one that is named or under all that are nowhere instantiated, or why they have none.
 fn design_of(
     alloc: Global,
     scales: &[Timescale],
@@ -125,13 +172,19 @@ fn design_of(
     Ok(Design::new(parts))
 }
 
-/// The design of a text under the unit that is named or under all that are nowhere instantiated, or why it has none.
-pub fn read_design(alloc: Global, text: &[u8], top: Option<&[u8]>) -> Result<Design, FrontFault>
-    requires { length text.now ≤ 2 ^ 23 }
-    ensures design { IfOk result (λ d. IsSource text.now (option_map (λ x. x.now) top.entry) d) }
-    ensures fault { IfErr result (Explains text.now (option_map (λ x. x.now) top.entry)) }
+/// The design of the texts of all files, in their order, under the unit that is named or under all that are nowhere instantiated, or why they have none.
+pub fn read_design(
+    alloc: Global,
+    texts: &[Vec<u8>],
+    top: Option<&[u8]>,
+) -> Result<Design, FrontFault>
+    requires few { length texts.now < 2 ^ 16 }
+    requires short { bytes_of (contents texts.now) ≤ 2 ^ 23 }
+    ensures design { IfOk result (λ d. IsSource (contents texts.now) (option_map (λ x. x.now) top.entry) d) }
+    ensures fault { IfErr result (Explains (contents texts.now) (option_map (λ x. x.now) top.entry)) }
 {
-    let lexed = lex(alloc, 0, text)?;
-    let units = parse(alloc, &lexed.tokens)?;
-    design_of(alloc, &lexed.scales, &units, top)
+    let mut units = Vec::new(alloc);
+    let mut scales = Vec::new(alloc);
+    read_texts(alloc, 0, texts, &mut units, &mut scales)?;
+    design_of(alloc, &scales, &units, top)
 }

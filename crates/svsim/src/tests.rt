@@ -6,6 +6,8 @@ use std::process::Abort;
 use std::test::Fail;
 use sv_io::{GoodShelf, GoodSink};
 
+mod constructs;
+mod files;
 mod limits;
 mod outside;
 mod refusals;
@@ -191,13 +193,13 @@ fn takes_a_number_of_steps(rt: HostRuntime) -> Result<(), Fail> {
         ),
         (
             "module t; endmodule",
-            "--steps 10000000",
+            "--steps 1099511627776",
             "svsim: done at 0\n",
             0,
         ),
         (
             "module t; endmodule",
-            "--steps 10000001",
+            "--steps 1099511627777",
             "svsim: bad command line\n",
             2,
         ),
@@ -253,7 +255,9 @@ endmodule
 fn keeps_the_places(rt: HostRuntime) -> Result<(), Fail> {
     let alloc = rt.alloc();
     let text = "module t;\n initial\n  begin #7\n   $display(\"a\"); end\nendmodule";
-    let design = read_design(alloc, text.as_bytes(), None)?;
+    let mut texts = Vec::new(alloc);
+    texts.push(text.as_bytes().to_vec(alloc)?)?;
+    let design = read_design(alloc, &texts, None)?;
     assert_eq!(rt; design.routines().len(), 2);
     for process in design.processes() {
         assert_eq!(rt;
@@ -276,7 +280,8 @@ fn tells_words_without_meaning(rt: HostRuntime) -> Result<(), Fail> {
         words_of(alloc, &["run"])?,
         words_of(alloc, &["go", "a.sv"])?,
         words_of(alloc, &["run", "-x"])?,
-        words_of(alloc, &["run", "a.sv", "b.sv"])?,
+        words_of(alloc, &["run", "a.sv", "-b.sv"])?,
+        words_of(alloc, &["run", "a.sv", "--top", "t", "b.sv"])?,
         words_of(alloc, &["run", "a.sv", "--top"])?,
         words_of(alloc, &["run", "a.sv", "--top", "-x"])?,
         words_of(alloc, &["run", "a.sv", "--top", "--active", "1"])?,
@@ -284,7 +289,7 @@ fn tells_words_without_meaning(rt: HostRuntime) -> Result<(), Fail> {
         words_of(alloc, &["run", "a.sv", "--active", "1", "--top", "t"])?,
         words_of(alloc, &["run", "a.sv", "--steps", "3", "--top", "t"])?,
         words_of(alloc, &["run", "a.sv", "--steps"])?,
-        words_of(alloc, &["run", "a.sv", "--steps", "10000001"])?,
+        words_of(alloc, &["run", "a.sv", "--steps", "1099511627777"])?,
         words_of(alloc, &["run", "a.sv", "--steps", "-1"])?,
         words_of(alloc, &["run", "a.sv", "--steps", "000000000000000000001"])?,
         words_of(alloc, &["run", "a.sv", "--active"])?,

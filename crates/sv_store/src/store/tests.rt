@@ -10,7 +10,7 @@ ghost use Rattle.sv_store.specs.First.{first_store, IsStorable};
 use super::*;
 use std::process::Abort;
 use std::test::Fail;
-use sv_flat::{DataType, Home, Object, ObjectKind, Parts, Scale};
+use sv_flat::{DataType, Home, Object, ObjectKind};
 use sv_value::{Integral, Place, Plain, Seq};
 
 /// An object of eight bits.
@@ -87,32 +87,96 @@ fn a_net_is_driven(rt: HostRuntime) -> Result<(), Fail> {
     Ok(())
 }
 
-/// A design of one variable.
-fn design_of_a_variable(alloc: Global) -> Result<Design, NoMemory>
-    ensures values { IfOk result (λ d. first_store d.objects ≡ Elements (bits (vector false (replicate 8 X)) ∷ []) ∷ []) }
-    ensures storable { IfOk result (λ d. AllByRecursion IsStorable d.objects) }
-{
-    let mut objects = Seq::new(alloc);
-    objects.push(byte(alloc, ObjectKind::Variable))?;
-    Ok(Design::new(Parts {
-        objects,
-        processes: Seq::new(alloc),
-        classes: Seq::new(alloc),
-        routines: Seq::new(alloc),
-        clockings: Seq::new(alloc),
-        instances: Seq::new(alloc),
-        scale: Scale {
-            unit: 6,
-            precision: 6,
-        },
-    }))
-}
-
 #[test]
 fn each_object_has_its_first_value(rt: HostRuntime) -> Result<(), Fail> {
     let alloc = rt.alloc();
-    let design = design_of_a_variable(alloc)?;
-    let store = Store::new(alloc, &design)?;
+    let store = Store::new(alloc, &[byte(alloc, ObjectKind::Variable)])?;
     same_words(&rt, store.value(ObjId(0), 0), (0, 255));
+    Ok(())
+}
+
+/// So many symbols from a place on.
+fn part(low: i64, width: u32) -> Option<Range> {
+    Some(Range { low, width })
+}
+
+#[test]
+fn parts_are_written(rt: HostRuntime) -> Result<(), Fail> {
+    let (alloc, variable) = (rt.alloc(), ObjId(0));
+    let mut store = two_objects(alloc)?;
+    let zeros = Bits::truncated(8, false, 0, 0);
+    let ones = Bits::truncated(8, false, 255, 0);
+    let first = store
+        .write(variable, 0, None, Val::Bits(zeros))?
+        .ok_or("a change")?;
+    assert!(rt; first.element == 0);
+    let inside = store
+        .write(variable, 0, part(2, 3), Val::Bits(ones))?
+        .ok_or("a change")?;
+    same_value(&rt, &inside.old, &Val::Bits(zeros));
+    same_value(
+        &rt,
+        &store.read(alloc, variable, 0)?,
+        &Val::Bits(Bits::truncated(8, false, 28, 0)),
+    );
+    let below = store
+        .write(variable, 0, part(-1, 2), Val::Bits(ones))?
+        .ok_or("a change")?;
+    same_value(
+        &rt,
+        &below.old,
+        &Val::Bits(Bits::truncated(8, false, 28, 0)),
+    );
+    let above = store
+        .write(variable, 0, part(7, 4), Val::Bits(ones))?
+        .ok_or("a change")?;
+    same_value(
+        &rt,
+        &above.old,
+        &Val::Bits(Bits::truncated(8, false, 29, 0)),
+    );
+    same_value(
+        &rt,
+        &store.read(alloc, variable, 0)?,
+        &Val::Bits(Bits::truncated(8, false, 157, 0)),
+    );
+    assert!(rt;
+        store
+            .write(variable, 0, part(8, 4), Val::Bits(ones))?
+            .is_none()
+    );
+    assert!(rt; store.write(variable, 1, None, Val::Bits(ones))?.is_none());
+    Ok(())
+}
+
+#[test]
+fn drivers_are_written(rt: HostRuntime) -> Result<(), Fail> {
+    let (alloc, net) = (rt.alloc(), ObjId(1));
+    let mut store = two_objects(alloc)?;
+    let ones = Bits::truncated(8, false, 255, 0);
+    let high = store
+        .write(net, 1, part(4, 4), Val::Bits(ones))?
+        .ok_or("a change")?;
+    same_value(
+        &rt,
+        &high.old,
+        &Val::Bits(Bits::truncated(8, false, 255, 255)),
+    );
+    same_value(
+        &rt,
+        &store.read(alloc, net, 0)?,
+        &Val::Bits(Bits::truncated(8, false, 255, 15)),
+    );
+    assert!(rt; store.write(net, 0, part(4, 4), Val::Bits(ones))?.is_none());
+    Ok(())
+}
+
+#[test]
+fn a_variable_is_set(rt: HostRuntime) -> Result<(), Fail> {
+    let (alloc, variable) = (rt.alloc(), ObjId(0));
+    let mut store = two_objects(alloc)?;
+    store.set_first(alloc, variable, Val::Object(None))?;
+    same_value(&rt, &store.read(alloc, variable, 0)?, &Val::Object(None));
+    same_value(&rt, &store.read(alloc, ObjId(2), 0)?, &Val::Object(None));
     Ok(())
 }

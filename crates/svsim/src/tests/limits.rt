@@ -1,4 +1,5 @@
 // Both sides of each limit.
+use super::files::both_say;
 use super::says;
 use std::alloc::{AllocError, Global};
 use std::test::Fail;
@@ -114,6 +115,34 @@ fn keeps_the_limit_of_bytes(rt: HostRuntime) -> Result<(), Fail> {
     says(&rt, &text, "", b"svsim: a.sv:1:1: refused: E4\n", 1)?;
     text.push(b' ')?;
     says(&rt, &text, "", b"svsim: a.sv: too long\n", 5)
+}
+
+#[test]
+fn keeps_the_limit_of_bytes_of_all_files(rt: HostRuntime) -> Result<(), Fail> {
+    let first = repeated(rt.alloc(), b' ', 8_388_600)?;
+    let whole = Some(b"module t".as_slice());
+    let fault = "svsim: b.sv:1:9: refused: unexpected token\n";
+    both_say(&rt, "b.sv", &first, whole, fault, 1)?;
+    let longer = Some(b"module t;".as_slice());
+    let fault = "svsim: b.sv: too long\n";
+    both_say(&rt, "b.sv", &first, longer, fault, 5)
+}
+
+#[test]
+fn keeps_the_limit_of_files(rt: HostRuntime) -> Result<(), Fail> {
+    let mut others = String::from_str(rt.alloc(), "a.sv")?;
+    for _ in 2..1_000 {
+        others.push_str(" a.sv")?;
+    }
+    says(
+        &rt,
+        b";",
+        others.as_str(),
+        b"svsim: a.sv:1:1: refused: E4\n",
+        1,
+    )?;
+    others.push_str(" a.sv")?;
+    says(&rt, b";", others.as_str(), b"svsim: bad command line\n", 2)
 }
 
 #[test]

@@ -168,14 +168,19 @@ fn tells_files_without_a_root(rt: HostRuntime) -> Result<(), Fail> {
 #[test]
 fn tells_forms_that_do_not_run(rt: HostRuntime) -> Result<(), Fail> {
     for text in [
-        "module t; int a = 1; endmodule",
-        "module t; int a, b; assign a = b; endmodule",
-        "module t; logic a; always #5 a = ~a; endmodule",
-        "module t; int a; initial a[0] = 1; endmodule",
-        "module t; int a; initial if (a[1]) ; endmodule",
-        "module t; initial repeat (2) $display(\"x\"); endmodule",
-        "module t; initial $display(\"%s\", \"a\"); endmodule",
-        "module t; initial $display(\"%0d\", $time); endmodule",
+        "class c; int a; endclass module t; c x; initial x = new; endmodule",
+        "module t; int q[$]; endmodule",
+        "module t; int a[]; endmodule",
+        "module t; int a[string]; endmodule",
+        "module t; function int f(); return 1; endfunction int a; initial a = f(); endmodule",
+        "module t; task k(); endtask initial k(); endmodule",
+        "module t; initial begin automatic int a = 1; end endmodule",
+        "module t; initial fork ; join endmodule",
+        "module t; event e; initial -> e; endmodule",
+        "module t; mailbox m; endmodule",
+        "module t; semaphore s; endmodule",
+        "module t; int a; initial $monitor(\"%0d\", a); endmodule",
+        "module t; logic c, d; clocking k @(posedge c); input d; endclocking endmodule",
         "program p; initial $display(\"p\"); endprogram",
     ] {
         let log = b"svsim: a.sv:1:1: refused: not yet\n";

@@ -1,8 +1,8 @@
 use Rattle.std.proofs.Common.{◌≡◌, ◌∙◌, sym, ap, refl, arith}
 use Rattle.sv_value.specs.Regions.{standing}
 use Rattle.sv_flat.specs.Steps.{came_due}
-use Rattle.sv_flat.proofs.Weights.{one}
-use Rattle.sv_flat.proofs.Room.{ones, count_processes}
+use Rattle.sv_sound.proofs.Weights.{one}
+use Rattle.sv_sound.proofs.Room.{ones, count_processes}
 use Rattle.sv_sched.proofs.FutureLemmas.{AllFrom-least_time, none_due}
 use Rattle.sv_kernel.proofs.ReleaseLemmas.{GivenOut, now, due_stays, rest_stays, still_from, one_fewer, plain_stays, plain_first, weight_stays, due_free}
 use Rattle.sv_kernel.proofs.future.release.Goals as goal

@@ -4,10 +4,10 @@ use Rattle.std.specs.List.{AllByRecursion}
 use Rattle.sv_value.specs.declared.number.ProcessId.{ProcessId}
 use Rattle.sv_value.specs.Regions.{standing}
 use Rattle.sv_flat.specs.Steps.{came_due, least_time}
-use Rattle.sv_flat.specs.Sound.{weight_of_event}
+use Rattle.sv_sound.specs.Sound.{weight_of_event}
 use Rattle.sv_kernel.specs.Future.{HoldsEvent}
-use Rattle.sv_flat.proofs.Weights.{one}
-use Rattle.sv_flat.proofs.Room.{ones}
+use Rattle.sv_sound.proofs.Weights.{one}
+use Rattle.sv_sound.proofs.Room.{ones}
 use Rattle.sv_sched.specs.Future.{due_at, not_due_at}
 use Rattle.sv_sched.proofs.FutureLemmas.{AllFrom}
 use Rattle.sv_kernel.proofs.future.release.Given as goal

@@ -5,7 +5,7 @@ use Rattle.std.proofs.lemmas.Option.{slice_get-get_or}
 use Rattle.sv_value.specs.Vector.{Vector}
 use Rattle.sv_value.specs.Operators.{resolved, resolved_symbol}
 use Rattle.sv_value.proofs.Laws.{length-by_symbols}
-use Rattle.sv_flat.proofs.Weights.{all_at}
+use Rattle.sv_store.proofs.SlotLemmas.{all_at}
 use Rattle.sv_store.specs.Objects.{IsWide}
 use Rattle.sv_store.proofs.net.resolved_value.Goals as goal
 

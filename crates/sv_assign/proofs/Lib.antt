@@ -1,0 +1,5 @@
+pub mod PieceLaws
+pub mod WriteLaws
+pub mod SpotLaws
+pub mod SpreadLaws
+pub mod SeenLaws

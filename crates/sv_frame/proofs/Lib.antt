@@ -1,0 +1,14 @@
+pub mod Masks
+pub mod Scopes
+pub mod Alike
+pub mod Lists
+pub mod Heaps
+pub mod Effects
+pub mod Paths
+pub mod Heads
+pub mod Home
+pub mod MicroHome
+pub mod Homes
+pub mod Runs
+pub mod Framed
+mod Mixed

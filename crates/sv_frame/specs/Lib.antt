@@ -1,0 +1,2 @@
+-- the law of the frame, for a design
+pub mod Framed

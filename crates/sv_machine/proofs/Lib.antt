@@ -1,0 +1,13 @@
+pub mod ReadyLaws
+pub mod WakeLaws
+pub mod WriteLaws
+pub mod EffectLaws
+pub mod EndLaws
+pub mod OccurLaws
+pub mod StepLaws
+pub mod StartLaws
+pub mod OpeningValues
+pub mod OpeningProcesses
+pub mod OpeningRegions
+pub mod StrobeLemmas
+pub mod BeginLaws

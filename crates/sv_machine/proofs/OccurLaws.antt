@@ -1,0 +1,191 @@
+-- Each effect, as it occurs: what the machine stands for then, and what is printed.
+use Rattle.std.proofs.Common.{ℕ, ◌≡◌, ◌+◌, ◌<◌, ◌≤◌, ◌^◌, List, [], ◌∷◌, ◌++◌, Option, None, Some, refl, ap, subst, sym, ◌∙◌, arith, length}
+use Rattle.std.specs.Prelude.{sum_by, Bool, true, false, ◌==◌, if◌then◌else◌}
+use Rattle.std.specs.List.{Contains}
+use Rattle.std.proofs.lemmas.List.{map-append}
+use mathlib.Core.List.{append_assoc}
+use Rattle.sv_value.specs.declared.number.ProcessId.{ProcessId}
+use Rattle.sv_value.specs.declared.place.Place.{Place}
+use Rattle.sv_value.specs.declared.place.FaultKind.{FaultKind}
+use Rattle.sv_value.specs.declared.schedule.Side.{Side}
+use Rattle.sv_value.specs.declared.schedule.Job.{Job}
+use Rattle.sv_value.specs.declared.target.Target.{Target}
+use Rattle.sv_value.specs.declared.val.Val.{Val}
+use Rattle.sv_value.specs.Regions.{standing}
+use Rattle.sv_value.specs.declared.operator.Piece.{Piece}
+use Rattle.sv_value.specs.declared.schedule.Due.TheVariants.{Work}
+use Rattle.sv_value.specs.Regions.{job_in, updates_of}
+use Rattle.sv_flat.specs.Expr.{Expr}
+use Rattle.sv_flat.specs.declared.process.Process.{Process}
+use Rattle.sv_flat.specs.declared.process.ProcessKind.{ProcessKind}
+use Rattle.sv_flat.specs.declared.process.ProcessKind.TheVariants as kind
+use Rattle.sv_flat.specs.declared.stmt.Stmt.{Stmt}
+use Rattle.sv_flat.specs.declared.stmt.Form.{Form}
+use Rattle.sv_flat.specs.declared.stmt.Form.TheVariants as form
+use Rattle.sv_flat.specs.declared.stmt.PrintKind.TheVariants as print
+use Rattle.sv_flat.specs.declared.design.Parts.{Parts}
+use Rattle.sv_flat.specs.State.{Name}
+use Rattle.sv_flat.specs.Process.{ProcessState, Effect, Write, Suspend, Turn_in_slot, Watches, Resume_at, Update_at, Print_text, Keep_print, Finish_run, End, Fail}
+use Rattle.sv_flat.specs.Config.{Config, Record, Strobe, process_at, first_process, met_fault}
+use Rattle.sv_flat.specs.Effects.{occurred}
+use Rattle.sv_flat.specs.Effects.Scheduling.{update_scheduled}
+use Rattle.sv_built.specs.declared.wait.Wait.{Wait}
+use Rattle.sv_built.specs.Built.{IsBuilt, IsBuiltProcess}
+use Rattle.sv_built.specs.Positions.{stmt_at}
+use Rattle.sv_built.specs.Waits.{watches_at}
+use Rattle.sv_sound.specs.Sound.{weight_of_all, weight_of_running}
+use Rattle.sv_sound.specs.After.{store_after, turned, waiting_until, recorded, strobe_kept}
+use Rattle.sv_sound.proofs.Weights.{all_at, one, one_self, once, not_contained}
+use Rattle.sv_sound.proofs.Wakes.{change_states}
+use Rattle.sv_sound.proofs.Room.{ones, all_count, count_processes}
+use Rattle.sv_sound.proofs.Occurs.{print_is, strobe_is, resume_is, turn_is, watch_is, update_is, fail_is, finish_is, effect_write_is, end_initial, end_always, end_always_ff, end_always_comb, end_assign, end_port}
+use Rattle.sv_sound.proofs.EffectSound.{each_process, running_known, found, ended_is}
+use Rattle.sv_assign.specs.Places.{spot_in}
+use Rattle.sv_process.specs.Effects.{effect_in}
+use Rattle.sv_process.specs.Effects as effects
+use Rattle.sv_machine.specs.declared.machine.Machine.{Machine}
+use Rattle.sv_machine.specs.declared.machine.Kept.{Kept}
+use Rattle.sv_machine.specs.declared.line.Line.{Line}
+use Rattle.sv_machine.specs.Log.{record_of, records_of}
+use Rattle.sv_machine.specs.Machine.{Picture, Tracks, StandsFor, IsAt, Makes, Does, strobe_of, printing}
+use Rattle.sv_machine.specs.Wakes.{side_at}
+use Rattle.sv_machine.specs.Steps.{turned_in, WaitsFor, resuming_at, updating_at, EndsAs}
+use Rattle.sv_machine.proofs.EffectLaws.{running_is, state_is, side_of_state, turn_tracks, watch_tracks, resume_tracks, update_tracks, print_tracks, strobe_tracks, finish_tracks, fail_tracks}
+use Rattle.sv_machine.proofs.EndLaws.{end_tracks}
+use Rattle.sv_machine.proofs.WriteLaws.{written, plain_spot}
+
+-- ---- the process that runs is one of the design, and stands nowhere
+
+module _ (d : Parts) (m : Machine) (h : IsAt d m) (p : ProcessId) (r : m.running ≡ Some p) where
+  running : h.config.running ≡ Some p
+  running = running_is d m h.config h.stands p r
+
+  pub runs_known : p.0 < length d.processes
+  runs_known = let k = running_known d h.config h.stands.sound p running in let e = each_process d h.config h.stands.sound in omega (arith, k, e)
+
+  weighs : (w : ProcessId → ℕ) → sum_by w (standing m.regions) + w p ≤ weight_of_all w d
+  weighs w =
+      let a = h.stands.sound.weights w in
+      let s = ap (λ (x : Picture). sum_by w (standing x.regions)) h.stands.stands.picture in
+      let o = ap (weight_of_running w) running in
+      omega (arith, a, s, o)
+
+  pub runs_absent : Contains (standing m.regions) p → ⊥
+  runs_absent c = let a = weighs (one p) in let o = one_self p in let k = once p 0 d.processes in not_contained p (standing m.regions) (omega (arith, a, o, k)) c
+
+  pub few_stand : length d.processes < 2 ^ 18 → length (standing m.regions) < 2 ^ 31
+  few_stand few = let a = weighs ones in let k = all_count d in let e = count_processes (standing m.regions) in omega (arith, a, k, e, few)
+
+-- ---- each effect
+
+-- an effect that prints nothing
+silent : (d : Parts) (m n : Machine) (f : Config → Config) (ls : List Line) → Makes d m n f → ((c : Config) → StandsFor d m c → (f c).records ≡ c.records) → Does d m n f ls ls
+silent d m n f ls k e = record { makes = k; adds = λ c rs a g. e c a ∙ g }
+
+module _ (d : Parts) (b : IsBuilt d) (at : Place) (p : ProcessId) (m n : Machine) (r : m.running ≡ Some p) (ls : List Line) where
+  none : d.clockings ≡ []
+  none = b.no_clockings
+
+  pub write_does : (t : Target) (x : Val) → Makes d m n (written d t x) → Does d m n (occurred d at p (Write (spot_in t) x)) ls ls
+  write_does t x k = silent d m n (occurred d at p (Write (spot_in t) x)) ls
+      (λ c a. subst (Tracks d n) (sym (is c)) (k c a))
+      (λ c a. ap (λ (e : Config). e.records) (is c ∙ change_states d (store_after (spot_in t) x c.store) c))
+    where
+      is : (c : Config) → occurred d at p (Write (spot_in t) x) c ≡ written d t x c
+      is c = effect_write_is d none at p c (spot_in t) (plain_spot t) x
+
+  pub turn_does : (s : Side) → s ≡ side_at d p → n ≡ turned_in p s m → Does d m n (occurred d at p (Suspend Turn_in_slot)) ls ls
+  turn_does s e k = silent d m n (occurred d at p (Suspend Turn_in_slot)) ls
+      (λ c a. let q = state_is d m c a p r in
+      subst (Tracks d n) (sym (turn_is d none at p c q.0 q.1)) (subst (λ (x : Machine). Tracks d x (turned p q.0 c)) (sym k) (turn_tracks d m c a p r q.0 q.1 s e)))
+      (λ c a. let q = state_is d m c a p r in ap (λ (e : Config). e.records) (turn_is d none at p c q.0 q.1))
+
+  pub watch_does : (w : Wait) (scope : Option Name) → scope ≡ None → WaitsFor d p w m n → Does d m n (occurred d at p (Suspend (Watches (watches_at d w) scope))) ls ls
+  watch_does w scope e k = subst (λ (o : Option Name). Does d m n (occurred d at p (Suspend (Watches (watches_at d w) o))) ls ls) (sym e)
+      (silent d m n (occurred d at p (Suspend (Watches (watches_at d w) None))) ls
+      (λ c a. let q = state_is d m c a p r in subst (Tracks d n) (sym (watch_is d none at p c q.0 q.1 (watches_at d w))) (watch_tracks d m c a p r q.0 q.1 w n k))
+      (λ c a. let q = state_is d m c a p r in ap (λ (e : Config). e.records) (watch_is d none at p c q.0 q.1 (watches_at d w))))
+
+  pub resume_does : (s : Side) (t : ℕ) → s ≡ side_at d p → n ≡ resuming_at p s t m → Does d m n (occurred d at p (Resume_at t)) ls ls
+  resume_does s t e k = silent d m n (occurred d at p (Resume_at t)) ls
+      (λ c a. let q = state_is d m c a p r in
+      subst (Tracks d n) (sym (resume_is d none at p c q.0 q.1 t)) (subst (λ (x : Machine). Tracks d x (waiting_until p q.0 t c)) (sym k) (resume_tracks d m c a p r q.0 q.1 s t e)))
+      (λ c a. let q = state_is d m c a p r in ap (λ (e : Config). e.records) (resume_is d none at p c q.0 q.1 t))
+
+  scheduled_records : (s : Side) (t : ℕ) (j : Job) (c : Config) → (update_scheduled s t j c).records ≡ c.records
+  scheduled_records s t j c = by_test (t == c.time)
+    where
+      by_test : (b : Bool) → (if b then record c { regions = job_in (updates_of s) j c.regions } else record c { future = c.future ++ record { time = t; region = updates_of s; due = Work j } ∷ [] }).records ≡ c.records
+      by_test true = refl
+      by_test false = refl
+
+  pub update_does : (s : Side) (t : ℕ) (j : Job) → s ≡ side_at d p → n ≡ updating_at s t j m → Does d m n (occurred d at p (Update_at t j)) ls ls
+  update_does s t j e k = silent d m n (occurred d at p (Update_at t j)) ls
+      (λ c a. let q = state_is d m c a p r in
+      subst (Tracks d n) (sym (update_is d none at p c q.0 q.1 t j)) (subst (λ (x : Machine). Tracks d x (update_scheduled q.0.side t j c)) (sym k) (update_tracks d m c a p r q.0 q.1 s t j e)))
+      (λ c a. let q = state_is d m c a p r in ap (λ (e : Config). e.records) (update_is d none at p c q.0 q.1 t j) ∙ scheduled_records q.0.side t j c)
+
+  pub print_does : (t : List ℕ) (l : Line) (after : List Line) → n ≡ m → after ≡ ls ++ l ∷ [] → l.side ≡ side_at d p → l.text ≡ t → Does d m n (occurred d at p (Print_text t)) ls after
+  print_does t l after k more s x = record {
+    makes = λ c a. (let q = state_is d m c a p r in
+        subst (Tracks d n) (sym (print_is d none at p c q.0 q.1 t)) (subst (λ (y : Machine). Tracks d y (recorded q.0 t c)) (sym k) (print_tracks d m c a p r q.0 q.1 t)));
+    adds = λ c rs a g. (let q = state_is d m c a p r in
+        ap (λ (e : Config). e.records) (print_is d none at p c q.0 q.1 t)
+        ∙ (λ i. g i ++ record { side = sym (s ∙ side_of_state d m c a p r q.0 q.1) i; text = sym x i } ∷ [])
+        ∙ append_assoc rs (records_of ls) (record_of l ∷ [])
+        ∙ ap (λ (us : List Record). rs ++ us) (sym (ap records_of more ∙ map-append record_of ls (l ∷ []))));
+  }
+
+  pub strobe_does : (k : Kept) → n ≡ record m { strobes = n.strobes } → n.strobes.items ≡ m.strobes.items ++ k ∷ [] → k.side ≡ side_at d p → k.at ≡ at
+      → Does d m n (occurred d at p (effects.strobe_at (stmt_at d k.position))) ls ls
+  strobe_does k e l s f = by_stmt (stmt_at d k.position) refl
+    where
+      Goal : Effect → Type 0
+      Goal x = Does d m n (occurred d at p x) ls ls
+
+      kept : (o : Option Stmt) → stmt_at d k.position ≡ o → (ps : List Piece) (es : List Expr) → ((g : Side) → strobe_of g k.at o ≡ record { side = g; at = k.at; pieces = ps; values = es }) → Goal (Keep_print print.Strobe ps es)
+      kept o g ps es x = silent d m n (occurred d at p (Keep_print print.Strobe ps es)) ls
+          (λ c a. let q = state_is d m c a p r in
+          subst (Tracks d n)
+          (ap (λ (y : Strobe). strobe_kept y c) ((λ i. record (strobe_of k.side k.at (g i)) { side = q.0.side }) ∙ ap (λ (y : Strobe). record y { side = q.0.side }) (x k.side) ∙ (λ i. record { side = q.0.side; at = f i; pieces = ps; values = es }))
+          ∙ sym (strobe_is d none at p c q.0 q.1 ps es))
+          (strobe_tracks d m c a p r q.0 q.1 n k e l s))
+          (λ c a. let q = state_is d m c a p r in ap (λ (e : Config). e.records) (strobe_is d none at p c q.0 q.1 ps es))
+
+      by_form : (x : Stmt) (y : Form) → stmt_at d k.position ≡ Some x → x.form ≡ y → Goal (effects.strobe_of y)
+      by_form x (form.Print z ps es) g i = kept (Some x) g ps es (λ h. ap (printing h k.at) i)
+      by_form x y g i = kept (Some x) g [] [] (λ h. ap (printing h k.at) i)
+
+      by_stmt : (o : Option Stmt) → stmt_at d k.position ≡ o → Goal (effects.strobe_at (stmt_at d k.position))
+      by_stmt None g = subst (λ o. Goal (effects.strobe_at o)) (sym g) (kept None g [] [] (λ h. refl))
+      by_stmt (Some x) g = subst (λ o. Goal (effects.strobe_at o)) (sym g) (by_form x x.form g refl)
+
+  pub finish_does : n ≡ record m { finishing = true } → Does d m n (occurred d at p Finish_run) ls ls
+  finish_does k = silent d m n (occurred d at p Finish_run) ls
+      (λ c a. let q = state_is d m c a p r in
+      subst (Tracks d n) (sym (finish_is d none at p c)) (subst (λ (x : Machine). Tracks d x (record c { finishing = true })) (sym k) (finish_tracks d m c a p r q.0 q.1)))
+      (λ c a. ap (λ (e : Config). e.records) (finish_is d none at p c))
+
+  pub fail_does : (k : FaultKind) → n ≡ record m { fault = Some (record { kind = k; at = at; time = m.time }) } → Does d m n (occurred d at p (Fail k)) ls ls
+  fail_does k e = silent d m n (occurred d at p (Fail k)) ls
+      (λ c a. let q = state_is d m c a p r in
+      subst (Tracks d n) (sym (fail_is d none at p c k)) (subst (λ (x : Machine). Tracks d x (met_fault k at c)) (sym e) (fail_tracks d m c a p r q.0 q.1 k at)))
+      (λ c a. ap (λ (e : Config). e.records) (fail_is d none at p c k))
+
+  pub end_does : ((f : Process) → first_process d p ≡ Some f → EndsAs d f p f.kind m n) → Does d m n (occurred d at p End) ls ls
+  end_does k = silent d m n (occurred d at p End) ls
+      (λ c a. let q = state_is d m c a p r in let f = found d c a.sound p q.0 q.1 in
+      end_tracks d b at p m c a r q.0 q.1 n f.process f.at (of_module p f.process f.at) (k f.process f.at))
+      (λ c a. let q = state_is d m c a p r in let f = found d c a.sound p q.0 q.1 in end_records c a q.0 q.1 f.process f.at (of_module p f.process f.at) f.process.kind refl)
+    where
+      of_module : (p : ProcessId) (f : Process) → first_process d p ≡ Some f → f.program ≡ None
+      of_module p f e = (all_at IsBuiltProcess d.processes p.0 f e b.each_process).of_module
+
+      end_records : (c : Config) → StandsFor d m c → (q : ProcessState) → process_at c p ≡ Some q → (f : Process) → first_process d p ≡ Some f → f.program ≡ None
+          → (k : ProcessKind) → f.kind ≡ k → (occurred d at p End c).records ≡ c.records
+      end_records c a q is f e g kind.Initial k = ap (λ (e : Config). e.records) (end_initial d none at p c q is f e k g ∙ ended_is d c a.sound p (running_is d m c a p r) q is)
+      end_records c a q is f e g kind.Always k = ap (λ (e : Config). e.records) (end_always d none at p c q is f e k)
+      end_records c a q is f e g kind.AlwaysFf k = ap (λ (e : Config). e.records) (end_always_ff d none at p c q is f e k)
+      end_records c a q is f e g kind.AlwaysComb k = ap (λ (e : Config). e.records) (end_always_comb d none at p c q is f e k)
+      end_records c a q is f e g kind.Assign k = ap (λ (e : Config). e.records) (end_assign d none at p c q is f e k)
+      end_records c a q is f e g kind.Port k = ap (λ (e : Config). e.records) (end_port d none at p c q is f e k)

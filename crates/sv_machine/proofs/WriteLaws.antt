@@ -1,0 +1,292 @@
+-- What a write makes of the machine and of the configuration for which it stands.
+use Rattle.std.proofs.Common.{ℕ, ◌≡◌, ◌≢◌, ◌+◌, ◌<◌, ◌≤◌, Bool, true, false, List, [], ◌∷◌, Option, None, Some, refl, ap, subst, sym, ◌∙◌, arith, length, map, take, drop, slice_get, ◌-◌}
+use Rattle.std.specs.Prelude.{Ok, Result, IsNone, ◌==◌, if◌then◌else◌, sum_by, get_or}
+use Rattle.std.specs.List.{AllByRecursion}
+use Rattle.std.proofs.lemmas.List.{take_all}
+use Rattle.std.proofs.lemmas.List.Sums.{sum_by-cons}
+use Rattle.std.proofs.lemmas.Bool.Decides.{nat_tests}
+use Rattle.sv_value.specs.declared.number.ObjId.{ObjId}
+use Rattle.sv_value.specs.declared.number.ProcessId.{ProcessId}
+use Rattle.sv_value.specs.declared.target.Target.{Target}
+use Rattle.sv_value.specs.declared.target.Target.TheVariants as target
+use Rattle.sv_value.specs.declared.val.Val.{Val}
+use Rattle.sv_value.specs.Regions.{standing}
+use Rattle.sv_flat.specs.declared.design.Parts.{Parts}
+use Rattle.sv_flat.specs.State.{Store, World, View, value_at}
+use Rattle.sv_flat.specs.Process
+use Rattle.sv_flat.specs.Process.{ProcessState, Status, Spot, Cell, no_place}
+use Rattle.sv_flat.specs.Effects.{write_occurred}
+use Rattle.sv_flat.specs.Steps.{job_spot, updates_written}
+use Rattle.sv_value.specs.declared.schedule.Update.{Update}
+use Rattle.sv_value.specs.declared.place.FaultKind.{FaultKind}
+use Rattle.sv_flat.specs.Config.{Config, unit_ticks, seen}
+use Rattle.sv_flat.specs.Effects.Writes.{wrote}
+use Rattle.sv_built.specs.declared.wait.Wait.{Wait}
+use Rattle.sv_built.specs.Built.{IsBuilt}
+use Rattle.sv_built.specs.Waits.{watches_at}
+use Rattle.sv_sound.specs.Sound.{IsSound, IsPlainSpot, weight_of_all, is_parked, parked_weight}
+use Rattle.sv_sound.specs.After.{with_store, changed_to, store_after}
+use Rattle.sv_sound.proofs.Wakes.{states_after, regions_after, woken_in, change_states, write_is}
+use Rattle.sv_sound.proofs.EffectSound.{change_sound}
+use Rattle.sv_sound.proofs.States.{state_found}
+use Rattle.sv_store.specs.declared.change.Overwritten.{Overwritten}
+use Rattle.sv_store.specs.Overwrites.{object_before, value_before}
+use Rattle.sv_assign.specs.Seen.{world_in, view_in, view_before}
+use Rattle.sv_assign.specs.Places.{spot_in}
+use Rattle.sv_assign.proofs.SeenLaws.{view_before-is, view_in-same}
+use Rattle.sv_sense.specs.Wakes.{SameBut, fires_at, woken_from, waits_after}
+use Rattle.sv_sense.specs.Sensed.{Sensed, Covers}
+use Rattle.sv_sense.proofs.BuiltLaws.{wait_built}
+use Rattle.sv_machine.specs.declared.machine.Machine.{Machine}
+use Rattle.sv_machine.specs.Waits.{awaited_at, awaited_by}
+use Rattle.sv_machine.specs.Machine.{Picture, of_machine, of_config, Tracks, StandsFor, IsAt, Makes, SameButValues}
+use Rattle.sv_machine.specs.Wakes.{side_at, side_in_design, all_ready, waits_weight, IsKnown, Wakes}
+use Rattle.sv_machine.proofs.WakeLaws.{Tests, quiet, awaited_some, waits_agree, regions_agree, rest_stays, taken_stays, pending_by_taken}
+
+-- ---- who is woken
+
+module _ (t : Option Wait → Bool) (no : t None ≡ false) where
+  pub woken_weight : (w : ProcessId → ℕ) (n : ℕ) (ws : List (Option Wait)) → sum_by w (woken_from t n ws) ≤ waits_weight w n ws
+  woken_weight w n [] = let z : sum_by w [] ≡ 0 = refl in omega (arith, z)
+  woken_weight w n (None ∷ ws) =
+      let k = woken_weight w (n + 1) ws in
+      let e = ap (λ (b : Bool). sum_by w (if b then record { 0 = n } ∷ woken_from t (n + 1) ws else woken_from t (n + 1) ws)) no in
+      omega (arith, k, e)
+  woken_weight w n (Some x ∷ ws) = by_test (t (Some x)) (woken_weight w (n + 1) ws)
+    where
+      by_test : (b : Bool) → sum_by w (woken_from t (n + 1) ws) ≤ waits_weight w (n + 1) ws
+          → sum_by w (if b then record { 0 = n } ∷ woken_from t (n + 1) ws else woken_from t (n + 1) ws) ≤ w (record { 0 = n }) + waits_weight w (n + 1) ws
+      by_test true k = let s = sum_by-cons w (record { 0 = n }) (woken_from t (n + 1) ws) in omega (arith, s, k)
+      by_test false k = omega (arith, k)
+
+pub woken_known : (t : Option Wait → Bool) (n m : ℕ) (ws : List (Option Wait)) → n + length ws ≤ m → AllByRecursion (IsKnown m) (woken_from t n ws)
+woken_known t n m [] l = tt
+woken_known t n m (x ∷ ws) l = by_test (t x) (woken_known t (n + 1) m ws (omega (arith, l)))
+  where
+    by_test : (b : Bool) → AllByRecursion (IsKnown m) (woken_from t (n + 1) ws) → AllByRecursion (IsKnown m) (if b then record { 0 = n } ∷ woken_from t (n + 1) ws else woken_from t (n + 1) ws)
+    by_test true k = (omega (arith, l), k)
+    by_test false k = k
+
+-- where the test holds for none, nothing changes
+pub none_left : (t : Option Wait → Bool) → ((w : Option Wait) → t w ≡ false) → (ws : List (Option Wait)) → waits_after t ws ≡ ws
+none_left t h [] = refl
+none_left t h (w ∷ ws) = λ i. (if h w i then None else w) ∷ none_left t h ws i
+
+pub none_woken : (t : Option Wait → Bool) → ((w : Option Wait) → t w ≡ false) → (n : ℕ) (ws : List (Option Wait)) → woken_from t n ws ≡ []
+none_woken t h n [] = refl
+none_woken t h n (w ∷ ws) = ap (λ (b : Bool). if b then record { 0 = n } ∷ woken_from t (n + 1) ws else woken_from t (n + 1) ws) (h w) ∙ none_woken t h (n + 1) ws
+
+-- ---- what is written
+
+pub plain_spot : (t : Target) → IsPlainSpot (spot_in t)
+plain_spot (target.Object t) = tt
+plain_spot target.Nothing = tt
+plain_spot t = tt
+
+wrote_is : (s : Spot) → IsPlainSpot s → (x : Val) (w : World) → wrote s x w ≡ Ok (record w { store = store_after s x w.store })
+wrote_is (Cell o i r) h x w = refl
+wrote_is Process.Nowhere h x w = refl
+wrote_is s h x w = absurd h
+
+the_same : {a b : World} → ◌≡◌ {A = Result World FaultKind} (Ok a) (Ok b) → a ≡ b
+the_same e = cc
+
+pub store_is : (t : Target) (x : Val) (old new : Store) → ((w : World) → w.store ≡ old → wrote (spot_in t) x w ≡ Ok (record w { store = new })) → new ≡ store_after (spot_in t) x old
+store_is t x old new h =
+    let e : Ok (record (world_in old) { store = new }) ≡ Ok (record (world_in old) { store = store_after (spot_in t) x old }) =
+    sym (h (world_in old) refl) ∙ wrote_is (spot_in t) (plain_spot t) x (world_in old) in
+    ap (λ (w : World). w.store) (the_same e)
+
+-- the values before and after a write are those of all objects but one
+pub same_but : (w : Overwritten) (s : Store) (now unit : ℕ) → SameBut w.object (view_before w s now unit) (view_in s now unit)
+same_but w s now unit = record { object = λ p h. other p h; variable = refl; name = refl; heap = refl; now = refl; unit = refl }
+  where
+    other : (p : ObjId) → p.0 ≢ w.object.0 → object_before w s p ≡ value_at s p
+    other p h i j = at_test (p.0 == w.object.0) refl i
+      where
+        at_test : (b : Bool) → (p.0 == w.object.0) ≡ b → (if b then value_before w s j else value_at s p j) ≡ value_at s p j
+        at_test true e = absurd (h (grind (arith, nat_tests)))
+        at_test false e = refl
+
+-- ---- what the machine stands for then
+
+-- the same but for what is written
+pub record Written (d : Parts) (m n : Machine) (s : Store) (t : Option Wait → Bool) : Type 0 where
+  pub is : n ≡ record m { store = s; sense = n.sense; regions = n.regions }
+  pub waits : n.sense.waits ≡ waits_after t m.sense.waits
+  pub regions : n.regions ≡ all_ready d (woken_from t 0 m.sense.waits) m.regions
+  pub covers : Covers d n.sense
+
+module _ (d : Parts) (m : Machine) (c : Config) (h : StandsFor d m c) (s : Store) where
+  abbrev pub u : ℕ
+  u = unit_ticks d.scale
+
+  same : of_machine d m ≡ of_config d c
+  same = h.stands.picture
+
+  sides : (i : ℕ) (q : ProcessState) → slice_get c.processes i ≡ Some q → q.side ≡ side_at d (record { 0 = 0 + i })
+  sides i q e =
+      let f = state_found _ d.processes c.processes i q h.sound.states e in
+      let z : 0 + i ≡ i = omega arith in
+      f.state.side ∙ sym (ap side_in_design (ap (slice_get d.processes) z ∙ f.at))
+
+  -- what is seen before and after
+  pub seen_before : seen d c None ≡ view_in m.store m.time u
+  seen_before =
+      (λ i. seen d (record c { world = record c.world { heap = h.sound.no_heap i; activations = h.sound.no_activations i } }) None)
+      ∙ ap (λ (p : Picture). view_in p.store p.time u) (sym same)
+
+  pub seen_after : seen d (with_store s c) None ≡ view_in s m.time u
+  seen_after =
+      (λ i. seen d (with_store s (record c { world = record c.world { heap = h.sound.no_heap i; activations = h.sound.no_activations i } })) None)
+      ∙ ap (λ (p : Picture). view_in s p.time u) (sym same)
+
+  module _ (t : Option Wait → Bool) (old new : View) (tests : Tests d t old new) (before : seen d c None ≡ old) (after : seen d (with_store s c) None ≡ new)
+      (n : Machine) (w : Written d m n s t) where
+    waits_are : map (awaited_at d) (waits_after t m.sense.waits) ≡ map awaited_by (states_after (woken_in d c s) 0 c.processes)
+    waits_are = waits_agree d c s old new before after t tests 0 c.processes m.sense.waits (ap (λ (p : Picture). p.waiting) same)
+
+    regions_are : all_ready d (woken_from t 0 m.sense.waits) m.regions ≡ regions_after (woken_in d c s) 0 c.processes c.regions
+    regions_are =
+        regions_agree d c s old new before after t tests 0 c.processes m.sense.waits (ap (λ (p : Picture). p.waiting) same) sides m.regions
+        ∙ ap (λ (p : Picture). regions_after (woken_in d c s) 0 c.processes p.regions) same
+
+    abbrev shown : Config
+    shown = record (with_store s c) { processes = states_after (woken_in d c s) 0 c.processes; regions = regions_after (woken_in d c s) 0 c.processes c.regions }
+
+    machine_is : of_machine d n ≡ record (of_machine d m) { store = s; waiting = map (awaited_at d) (waits_after t m.sense.waits); regions = all_ready d (woken_from t 0 m.sense.waits) m.regions }
+    machine_is =
+        ap (of_machine d) w.is
+        ∙ (λ i. record (of_machine d m) { store = s; waiting = map (awaited_at d) (w.waits i); regions = w.regions i })
+
+    config_is : record (of_config d c) { store = s; waiting = map awaited_by shown.processes; regions = shown.regions } ≡ of_config d shown
+    config_is =
+        let a = sym (rest_stays (woken_in d c s) 0 c.processes) in
+        let b = sym (taken_stays (woken_in d c s) 0 c.processes) in
+        let e = sym (pending_by_taken d.processes c.processes (states_after (woken_in d c s) 0 c.processes) (taken_stays (woken_in d c s) 0 c.processes)) in
+        λ i. record (of_config d shown) { remaining = a i; taken = b i; starters = e i }
+
+    picture_is : of_machine d n ≡ of_config d shown
+    picture_is =
+        machine_is ∙ (λ i. record (same i) { store = s; waiting = waits_are i; regions = regions_are i }) ∙ config_is
+
+    pub changed_tracks : Tracks d n (changed_to d s c)
+    changed_tracks = subst (Tracks d n) (sym (change_states d s c)) (record {
+      time = ap (λ (x : Machine). x.time) w.is ∙ ap (λ (p : Picture). p.time) same;
+      fault = ap (λ (x : Machine). x.fault) w.is ∙ h.fault;
+      going = λ g. record {
+        picture = picture_is;
+        covers = w.covers;
+        last = (let e = ap (λ (x : Machine). x.wheel.last) w.is in let f = ap (λ (x : Machine). x.time) w.is in let k = h.stands.last in omega (arith, e, f, k));
+      };
+    })
+
+-- ---- what a write leaves
+
+same_views : (d : Parts) → IsBuilt d → (v : View) (w : Option Wait) → fires_at d v v w ≡ false
+same_views d b v None = refl
+same_views d b v (Some w) = quiet (watches_at d w) (wait_built d b w) v
+
+-- who waits for a change is parked
+parked_weighs : (d : Parts) (w : ProcessId → ℕ) (n : ℕ) (ws : List (Option Wait)) (qs : List ProcessState) → map (awaited_at d) ws ≡ map awaited_by qs → waits_weight w n ws ≤ parked_weight w n qs
+parked_weighs d w n [] [] e = omega arith
+parked_weighs d w n [] (q ∷ qs) e = absurd (cc)
+parked_weighs d w n (x ∷ ws) [] e = absurd (cc)
+parked_weighs d w n (None ∷ ws) (q ∷ qs) e =
+    let rest : map (awaited_at d) ws ≡ map awaited_by qs = cc in
+    let k = parked_weighs d w (n + 1) ws qs rest in
+    omega (arith, k)
+parked_weighs d w n (Some x ∷ ws) (q ∷ qs) e =
+    let rest : map (awaited_at d) ws ≡ map awaited_by qs = cc in
+    let first : awaited_by q ≡ Some (record { watches = watches_at d x; scope = None }) = cc in
+    let k = parked_weighs d w (n + 1) ws qs rest in
+    let s = ap (λ (s : Status). if is_parked s then w (record { 0 = n }) else 0) (awaited_some (record { watches = watches_at d x; scope = None }) q.latest first) in
+    omega (arith, k, s)
+
+-- there is room for those who are woken
+pub wake_room : (d : Parts) (m : Machine) → IsAt d m → (w : ProcessId → ℕ) → sum_by w (standing m.regions) + waits_weight w 0 m.sense.waits ≤ weight_of_all w d
+wake_room d m h w =
+    let c = h.config in
+    let same : of_machine d m ≡ of_config d c = h.stands.stands.picture in
+    let k = parked_weighs d w 0 m.sense.waits c.processes (ap (λ (p : Picture). p.waiting) same) in
+    let r = ap (λ (p : Picture). sum_by w (standing p.regions)) same in
+    let a = h.stands.sound.weights w in
+    omega (arith, k, r, a)
+
+pub at_covers : (d : Parts) (m : Machine) → IsAt d m → Covers d m.sense
+at_covers d m h = h.stands.stands.covers
+
+-- what is written
+pub record Wrote (m n : Machine) (t : Target) (x : Val) : Type 0 where
+  pub is : SameButValues m n
+  pub wrote : (w : World) → w.store ≡ m.store → wrote (spot_in t) x w ≡ Ok (record w { store = n.store })
+
+-- a write, and the change that it makes
+abbrev pub written : Parts → Target → Val → Config → Config
+written d t x c = changed_to d (store_after (spot_in t) x c.store) c
+
+module _ (d : Parts) (m n : Machine) (tg : Target) (x : Val) (h : Wrote m n tg x) where
+  becomes : (c : Config) → StandsFor d m c → n.store ≡ store_after (spot_in tg) x c.store
+  becomes c k = store_is tg x m.store n.store h.wrote ∙ ap (λ (p : Picture). store_after (spot_in tg) x p.store) k.stands.picture
+
+  pub wrote_some : (w : Overwritten) → ((o : ObjId) (j : ℕ) → value_at m.store o j ≡ object_before w n.store o j)
+      → Wakes d (view_before w n.store m.time (unit_ticks d.scale)) (view_in n.store m.time (unit_ticks d.scale)) m.sense m.regions n.sense n.regions → Makes d m n (written d tg x)
+  wrote_some w told k c a =
+      let u = unit_ticks d.scale in
+      let old = view_before w n.store m.time u in
+      let new = view_in n.store m.time u in
+      subst (λ s. Tracks d n (changed_to d s c)) (becomes c a)
+      (changed_tracks d m c a n.store (fires_at d old new) old new (record { none = refl; some = λ w. refl })
+      (seen_before d m c a n.store ∙ sym (view_before-is w m.store n.store m.time u told)) (seen_after d m c a n.store)
+      n (record { is = h.is; waits = k.waits; regions = k.regions; covers = k.covers }))
+
+  pub wrote_none : IsBuilt d → ((o : ObjId) (j : ℕ) → value_at n.store o j ≡ value_at m.store o j) → n.sense ≡ m.sense → n.regions ≡ m.regions → Makes d m n (written d tg x)
+  wrote_none b told s r c a =
+      let u = unit_ticks d.scale in
+      let v = view_in n.store m.time u in
+      let t : Option Wait → Bool = fires_at d v v in
+      let none : (w : Option Wait) → t w ≡ false = same_views d b v in
+      subst (λ s. Tracks d n (changed_to d s c)) (becomes c a)
+      (changed_tracks d m c a n.store t v v (record { none = refl; some = λ w. refl })
+      (seen_before d m c a n.store ∙ sym (view_in-same m.store n.store m.time u told)) (seen_after d m c a n.store)
+      n (record {
+        is = h.is;
+        waits = ap (λ (s : Sensed). s.waits) s ∙ sym (none_left t none m.sense.waits);
+        regions = r ∙ ap (λ (ps : List ProcessId). all_ready d ps m.regions) (sym (none_woken t none 0 m.sense.waits));
+        covers = subst (Covers d) (sym s) a.stands.covers;
+      }))
+
+-- ---- one after another
+
+-- what a machine stands for after a part of a step
+pub carried : (d : Parts) (m n : Machine) (f : Config → Config) → (h : IsAt d m) → Makes d m n f → IsSound d (f h.config) → IsNone (f h.config).fault → IsAt d n
+carried d m n f h k s g =
+    let t = k h.config h.stands in
+    record { config = f h.config; stands = record { sound = s; going = g; fault = t.fault; stands = t.going g } }
+
+pub both_make : (d : Parts) (m n l : Machine) (f g : Config → Config) → ((c : Config) → StandsFor d m c → StandsFor d n (f c)) → Makes d n l g → Makes d m l (λ c. g (f c))
+both_make d m n l f g h k c a = k (f c) (h c a)
+
+pub written_stands : (d : Parts) (m n : Machine) (t : Target) (x : Val) → Makes d m n (written d t x) → (c : Config) → StandsFor d m c → StandsFor d n (written d t x c)
+written_stands d m n t x k c a =
+    let s = store_after (spot_in t) x c.store in
+    let g : IsNone (changed_to d s c).fault = subst (λ (e : Config). IsNone e.fault) (sym (change_states d s c)) a.going in
+    let r = k c a in
+    record { sound = change_sound d s c a.sound; going = g; fault = r.fault; stands = r.going g }
+
+pub written_at : (d : Parts) (m n : Machine) (t : Target) (x : Val) → Makes d m n (written d t x) → IsAt d m → IsAt d n
+written_at d m n t x k h = record { config = written d t x h.config; stands = written_stands d m n t x k h.config h.stands }
+
+-- an update of a job
+pub update_is : (d : Parts) → IsBuilt d → (u : Update) (c : Config) → write_occurred d no_place (job_spot u.target) u.value c ≡ written d (target.Object u.target) u.value c
+update_is d b u c = write_is d b.no_clockings no_place (job_spot u.target) tt u.value c
+
+pub updates_make : (d : Parts) → IsBuilt d → (u : Update) (us : List Update) (m n l : Machine) → Makes d m n (written d (target.Object u.target) u.value) → Makes d n l (updates_written d us)
+    → Makes d m l (updates_written d (u ∷ us))
+updates_make d b u us m n l h k c a =
+    subst (λ e. Tracks d l (updates_written d us e)) (sym (update_is d b u c)) (k (written d (target.Object u.target) u.value c) (written_stands d m n (target.Object u.target) u.value h c a))
+
+-- the first of a list, and what is left as the code has it
+pub first_of : {A : Type 0} (xs : List A) (x : A) → 0 < length xs → get_or xs 0 x ≡ x → xs ≡ x ∷ take (length xs - 1) (drop 1 xs)
+first_of [] x l e = absurd (omega (arith, l))
+first_of (y ∷ ys) x l e = λ i. e i ∷ sym (take_all (length (y ∷ ys) - 1) ys (omega arith)) i

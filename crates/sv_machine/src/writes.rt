@@ -1,0 +1,117 @@
+// Changes of values: what is written, and whom it wakes (IEEE 1800-2017, 9.4.2 and 10.4).
+ghost use Rattle.std.specs.Prelude.{◌≡◌, ◌≤◌, ◌+◌, [], ℕ, OnOk, OnErr, length, sum_by};
+ghost use Rattle.sv_value.specs.declared.number.ProcessId.{ProcessId as ProcessNumber};
+ghost use Rattle.sv_value.specs.Regions.{standing};
+ghost use Rattle.sv_flat.specs.Steps.{job_done, updates_written};
+ghost use Rattle.sv_flat.specs.Config.{unit_ticks};
+ghost use Rattle.sv_built.specs.Built.{IsBuilt};
+ghost use Rattle.sv_sound.specs.Sound.{IsPlainJob, weight_of_all};
+ghost use Rattle.sv_sound.specs.After.{changed_to, store_after};
+ghost use Rattle.sv_assign.specs.Seen.{view_in, view_before};
+ghost use Rattle.sv_assign.specs.Places.{spot_in};
+ghost use Rattle.sv_sense.specs.Sensed.{Covers};
+ghost use Rattle.sv_machine.specs.Wakes.{Wakes, waits_weight};
+ghost use Rattle.sv_machine.specs.Machine.{IsAt, Makes, SameMoment, SameButValues};
+
+use crate::machine::Machine;
+use crate::wakes::make_ready;
+use std::alloc::Global;
+use sv_assign::{Before, Seen, overwrite};
+use sv_built::Design;
+use sv_sched::Regions;
+use sv_sense::Sense;
+use sv_store::{Overwritten, Store};
+use sv_value::{Job, NoMemory, Target, Update, Val};
+
+/// Lets those go on whom a change wakes, by number.
+fn wake(
+    alloc: Global,
+    design: &Design,
+    store: &Store,
+    time: u64,
+    overwritten: &Overwritten,
+    sense: &mut Sense,
+    regions: &mut Regions,
+) -> Result<(), NoMemory>
+    requires built { IsBuilt design.now }
+    requires covers { Covers design.now sense.old }
+    requires weights { (w : ProcessNumber → ℕ)
+        → sum_by w (standing regions.old) + waits_weight w 0 sense.old.waits ≤ weight_of_all w design.now }
+    ensures { OnOk result (Wakes design.now (view_before overwritten.now store.now time (unit_ticks design.now.scale))
+        (view_in store.now time (unit_ticks design.now.scale)) sense.old regions.old sense.new regions.new) }
+{
+    let mut woken = Vec::new(alloc);
+    let unit = design.scale().unit_ticks();
+    let seen = Seen { store, time, unit };
+    let before = Before { seen, overwritten };
+    sense.fire(
+        alloc,
+        design,
+        overwritten.object,
+        &before,
+        &seen,
+        &mut woken,
+    )?;
+    make_ready(design, &woken, regions)
+}
+
+/// A value is written, and those go on whom the change wakes.
+pub fn write(
+    machine: &mut Machine,
+    design: &Design,
+    target: &Target,
+    value: Val,
+) -> Result<(), NoMemory>
+    requires at { IsAt design.now machine.old }
+    requires built { IsBuilt design.now }
+    ensures ok { OnOk result (Makes design.now machine.old machine.new
+        (λ c. changed_to design.now (store_after (spot_in target.now) value c.store) c)) }
+    ensures same { OnOk result (SameButValues machine.old machine.new) }
+    ensures moment { SameMoment machine.old machine.new }
+{
+    match overwrite(&mut machine.store, target, value)? {
+        None => Ok(()),
+        Some(overwritten) => wake(
+            machine.alloc,
+            design,
+            &machine.store,
+            machine.time,
+            &overwritten,
+            &mut machine.sense,
+            &mut machine.regions,
+        ),
+    }
+}
+
+/// Does a job: its updates, from the left, each as a change.
+pub fn do_job(machine: &mut Machine, design: &Design, job: &Job) -> Result<(), NoMemory>
+    requires at { IsAt design.now machine.old }
+    requires built { IsBuilt design.now }
+    requires job { IsPlainJob job.now }
+    ensures ok { OnOk result (Makes design.now machine.old machine.new (job_done design.now job.now)) }
+    ensures same { OnOk result (SameButValues machine.old machine.new) }
+    ensures moment { SameMoment machine.old machine.new }
+{
+    match job {
+        Job::Update(updates) => write_updates(machine, design, updates.as_slice()),
+        Job::Clock(_) => unreachable!(),
+    }
+}
+
+/// Writes the values of updates, from the left.
+fn write_updates(machine: &mut Machine, design: &Design, updates: &[Update]) -> Result<(), NoMemory>
+    requires at { IsAt design.now machine.old }
+    requires built { IsBuilt design.now }
+    ensures ok { OnOk result (Makes design.now machine.old machine.new (updates_written design.now updates.now)) }
+    ensures same { OnOk result (SameButValues machine.old machine.new) }
+    ensures moment { SameMoment machine.old machine.new }
+{
+    match updates {
+        [] => Ok(()),
+        [update, rest @ ..] => {
+            let value = update.value.copy(machine.alloc)?;
+            write(machine, design, &Target::Object(update.target), value)?;
+            write_updates(machine, design, rest)
+        }
+    }
+}

@@ -1,0 +1,257 @@
+-- What a stack stands for, by its last entry.
+use Rattle.std.proofs.Common.{ℕ, ◌≡◌, ◌+◌, ◌-◌, ◌<◌, zero, suc, List, [], ◌∷◌, ◌++◌, Option, None, Some, true, false, refl, ap, subst, sym, ◌∙◌, arith, length, drop, map, reverse, length-append, inl, inr}
+use Rattle.std.specs.Prelude.{slice_get, option_to_list, nat_lt, not, ◌==◌}
+use Rattle.std.proofs.lemmas.List.{append-nil, get_or_push, reverse-append, drop_more}
+use Rattle.std.proofs.lemmas.Bool.Decides.{nat_tests}
+use Rattle.std.proofs.lemmas.Option.{slice_get-get_or, slice_get_cases}
+use Rattle.sv_flat.specs.declared.design.Parts.{Parts}
+use Rattle.sv_value.specs.declared.number.RoutineId.{RoutineId}
+use Rattle.sv_value.specs.declared.place.Place.{Place}
+use Rattle.sv_value.specs.declared.val.Val.{Val}
+use Rattle.sv_flat.specs.declared.stmt.Stmt.{Stmt}
+use Rattle.sv_flat.specs.declared.stmt.Form.{Form}
+use Rattle.sv_flat.specs.declared.stmt.Form.TheVariants as form
+use Rattle.sv_flat.specs.State.{Name}
+use Rattle.sv_flat.specs.Process.{Todo, Turn, Turns, Put, body_in}
+use Rattle.sv_built.specs.declared.position.Position.{Position}
+use Rattle.sv_built.specs.Positions.{body_of, stmt_at}
+use Rattle.sv_process.specs.declared.frames.Frame.{Frame}
+use Rattle.sv_process.specs.declared.frames.Frame.TheVariants as frame
+use Rattle.sv_process.specs.declared.frames.First.TheVariants as first
+use Rattle.sv_process.specs.Frames.{to_do, rest_at, turn_at, turns_of, turns_at, put_of, put_at, todos_in, todos_of, scope_in, scope_of_step, is_more, IsSettled, IsFirst}
+
+some_same : {a b : Frame} → Some a ≡ Some b → a ≡ b
+some_same h = cc
+
+-- a list that is not empty has a last element
+last_of : (x : Frame) (xs : List Frame) → (front : List Frame) × (last : Frame) × (x ∷ xs ≡ front ++ last ∷ [])
+last_of x [] = ([], x, refl)
+last_of x (y ∷ ys) = let r = last_of y ys in (x ∷ r.0, r.1, ap (λ u. x ∷ u) r.2)
+
+slice_get-last : (fs : List Frame) (f : Frame) → slice_get (fs ++ f ∷ []) (length (fs ++ f ∷ []) - 1) ≡ Some f
+slice_get-last fs f =
+    let n : length (fs ++ f ∷ []) ≡ length fs + 1 = length-append fs (f ∷ []) in
+    let k : length (fs ++ f ∷ []) - 1 ≡ length fs = omega arith in
+    ap (slice_get (fs ++ f ∷ [])) k ∙ slice_get-get_or (fs ++ f ∷ []) (length fs) f (omega arith) ∙ ap Some (get_or_push fs f f (length fs) refl)
+
+-- the last entry comes first in what a stack stands for
+pub last_first : (xs : List Frame) (f : Frame) → slice_get xs (length xs - 1) ≡ Some f → reverse xs ≡ f ∷ drop 1 (reverse xs)
+last_first [] f h = cc
+last_first (x ∷ xs) f h =
+    let l = last_of x xs in
+    let same : l.1 ≡ f = some_same (sym (slice_get-last l.0 l.1) ∙ ap (λ u. slice_get u (length u - 1)) (sym l.2) ∙ h) in
+    let split : x ∷ xs ≡ l.0 ++ f ∷ [] = l.2 ∙ ap (λ u. l.0 ++ u ∷ []) same in
+    subst (λ u. reverse u ≡ f ∷ drop 1 (reverse u)) (sym split) (pushed l.0 f)
+  where
+    pushed : (fs : List Frame) (f : Frame) → reverse (fs ++ f ∷ []) ≡ f ∷ drop 1 (reverse (fs ++ f ∷ []))
+    pushed fs f = let e : reverse (fs ++ f ∷ []) ≡ f ∷ reverse fs = reverse-append fs (f ∷ []) in e ∙ ap (λ u. f ∷ drop 1 u) (sym e)
+
+-- what was pushed comes first
+pub push_first : (xs : List Frame) (f : Frame) → reverse (xs ++ f ∷ []) ≡ f ∷ reverse xs
+push_first xs f = reverse-append xs (f ∷ [])
+
+-- an entry of which nothing is left may go
+pub popped_same : (d : Parts) (xs ys : List Frame) (o : Option Frame) (top : Frame) → xs ≡ ys ++ option_to_list o → slice_get xs (length xs - 1) ≡ Some top
+    → is_more (todos_in d top) ≡ false → todos_of d (reverse ys) ≡ todos_of d (reverse xs)
+popped_same d xs ys None top e h done = ap (λ (u : List Frame). todos_of d (reverse u)) (sym (append-nil ys) ∙ sym e)
+popped_same d xs ys (Some f) top e h done =
+    let same : f ≡ top = some_same (sym (slice_get-last ys f) ∙ ap (λ (u : List Frame). slice_get u (length u - 1)) (sym e) ∙ h) in
+    let none : todos_in d f ≡ [] = nothing (todos_in d f) (ap (λ u. is_more (todos_in d u)) same ∙ done) in
+    sym (ap (λ (u : List Frame). todos_of d (reverse u)) e ∙ ap (todos_of d) (push_first ys f) ∙ ap (λ u. u ++ todos_of d (reverse ys)) none)
+  where
+    nothing : (ts : List Todo) → is_more ts ≡ false → ts ≡ []
+    nothing [] h = refl
+    nothing (t ∷ ts) h = cc
+
+-- ---- what comes first
+
+-- whether statements are left from a place on
+pub more_rest : (n : ℕ) (xs : List Stmt) (scope : Option Name) → nat_lt n (length xs) ≡ is_more (map (to_do scope) (drop n xs))
+more_rest n [] scope = none_left n
+  where
+    none_left : (n : ℕ) → nat_lt n 0 ≡ is_more (map (to_do scope) (drop n []))
+    none_left zero = refl
+    none_left (suc n) = grind (arith, nat_tests)
+more_rest zero (x ∷ xs) scope = first_is (length xs)
+  where
+    first_is : (n : ℕ) → nat_lt 0 (suc n) ≡ true
+    first_is n = grind (arith, nat_tests)
+more_rest (suc n) (x ∷ xs) scope = one_less n (length xs) ∙ more_rest n xs scope
+  where
+    one_less : (n m : ℕ) → nat_lt (suc n) (suc m) ≡ nat_lt n m
+    one_less n m = grind (arith, nat_tests)
+
+-- the statement at a place comes first of those from there on
+stmts_from : (n : ℕ) (xs : List Stmt) (s : Stmt) → slice_get xs n ≡ Some s → drop n xs ≡ s ∷ drop (n + 1) xs
+stmts_from n xs s g =
+    elim (slice_get_cases xs n).1 [
+      | inl w ↦ let e : w.0 ≡ s = stmt_same (sym w.2 ∙ g) in drop_more xs n w.0 w.1 ∙ ap (λ u. u ∷ drop (n + 1) xs) (w.3 ∙ e)
+      | inr w ↦ absurd (no_stmt (sym w.1 ∙ g))
+    ]
+  where
+    stmt_same : {a b : Stmt} → Some a ≡ Some b → a ≡ b
+    stmt_same h = cc
+
+    no_stmt : {b : Stmt} → None ≡ Some b → ⊥
+    no_stmt h = cc
+
+-- what comes first of all comes first of what is left
+first_of_all : (ts us : List Todo) (t : Todo) → ts ≡ t ∷ us → (vs : List Todo) → ts ++ vs ≡ t ∷ drop 1 (ts ++ vs)
+first_of_all ts us t e vs = subst (λ u. u ++ vs ≡ t ∷ drop 1 (u ++ vs)) (sym e) refl
+
+-- the same by the entry that comes first
+by_entry : (d : Parts) (xs : List Frame) (f : Frame) (t : Todo) (us : List Todo) → slice_get xs (length xs - 1) ≡ Some f → todos_in d f ≡ t ∷ us
+    → todos_of d (reverse xs) ≡ t ∷ drop 1 (todos_of d (reverse xs))
+by_entry d xs f t us g e =
+    let split = last_first xs f g in
+    subst (λ u. todos_of d u ≡ t ∷ drop 1 (todos_of d u)) (sym split) (first_of_all (todos_in d f) us t e (todos_of d (drop 1 (reverse xs))))
+
+pub first_nothing : (d : Parts) (xs : List Frame) → length xs ≡ 0 → IsFirst d first.Nothing (todos_of d (reverse xs))
+first_nothing d [] h = refl
+first_nothing d (x ∷ xs) h = absurd (omega arith)
+
+pub first_stmt : (d : Parts) (xs : List Frame) (p : Position) (scope : Option Name) → slice_get xs (length xs - 1) ≡ Some (frame.Rest p scope)
+    → IsFirst d (first.Stmt p scope) (todos_of d (reverse xs))
+first_stmt d xs p scope g = λ s at.
+    by_entry d xs (frame.Rest p scope) (to_do scope s) (map (to_do scope) (drop (p.place + 1) (body_of d p.routine))) g
+    (ap (map (to_do scope)) (stmts_from p.place (body_of d p.routine) s at))
+
+pub first_loop : (d : Parts) (xs : List Frame) (p : Position) (scope : Option Name) → slice_get xs (length xs - 1) ≡ Some (frame.Loop p scope)
+    → IsFirst d (first.Loop p scope) (todos_of d (reverse xs))
+first_loop d xs p scope g = λ s at. by_entry d xs (frame.Loop p scope) (Turn s scope) [] g (ap (λ o. turn_at o scope) at)
+
+pub first_turns : (d : Parts) (xs : List Frame) (p : Position) (n : ℕ) (scope : Option Name) → slice_get xs (length xs - 1) ≡ Some (frame.Turns p n scope)
+    → IsFirst d (first.Turns p n scope) (todos_of d (reverse xs))
+first_turns d xs p n scope g = λ s e body at is.
+    by_entry d xs (frame.Turns p n scope) (Turns s.at n body scope) [] g (ap (λ o. turns_at o n scope) at ∙ ap (λ f. turns_of s.at f n scope) is)
+
+pub first_put : (d : Parts) (xs : List Frame) (p : Position) (x : Val) (scope : Option Name) → slice_get xs (length xs - 1) ≡ Some (frame.Put p x scope)
+    → IsFirst d (first.Put p x scope) (todos_of d (reverse xs))
+first_put d xs p x scope g = λ s to e delay t at is.
+    by_entry d xs (frame.Put p x scope) (Put s.at to x scope) [] g (ap (λ o. put_at o x scope) at ∙ ap (λ f. put_of s.at f x scope) is)
+
+-- ---- the scope of what comes first
+
+pub no_scope : (d : Parts) (xs : List Frame) → length xs ≡ 0 → None ≡ scope_of_step (todos_of d (reverse xs))
+no_scope d [] h = refl
+no_scope d (x ∷ xs) h = absurd (omega arith)
+
+scope_at : (d : Parts) (f : Frame) (ts : List Todo) → is_more (todos_in d f) ≡ true → scope_in f ≡ scope_of_step (todos_in d f ++ ts)
+scope_at d (frame.Rest p scope) ts h = by_stmts (drop p.place (body_of d p.routine)) h
+  where
+    by_stmts : (ss : List Stmt) → is_more (map (to_do scope) ss) ≡ true → scope ≡ scope_of_step (map (to_do scope) ss ++ ts)
+    by_stmts [] h = cc
+    by_stmts (s ∷ ss) h = refl
+scope_at d (frame.Loop p scope) ts h = by_stmt (stmt_at d p) h
+  where
+    by_stmt : (o : Option Stmt) → is_more (turn_at o scope) ≡ true → scope ≡ scope_of_step (turn_at o scope ++ ts)
+    by_stmt None h = cc
+    by_stmt (Some s) h = refl
+scope_at d (frame.Turns p n scope) ts h = by_stmt (stmt_at d p) h
+  where
+    by_form : (at : Place) (f : Form) → is_more (turns_of at f n scope) ≡ true → scope ≡ scope_of_step (turns_of at f n scope ++ ts)
+    by_form at (form.Repeat e body) h = refl
+    by_form at f h = cc
+
+    by_stmt : (o : Option Stmt) → is_more (turns_at o n scope) ≡ true → scope ≡ scope_of_step (turns_at o n scope ++ ts)
+    by_stmt None h = cc
+    by_stmt (Some s) h = by_form s.at s.form h
+scope_at d (frame.Put p x scope) ts h = by_stmt (stmt_at d p) h
+  where
+    by_form : (at : Place) (f : Form) → is_more (put_of at f x scope) ≡ true → scope ≡ scope_of_step (put_of at f x scope ++ ts)
+    by_form at (form.AssignAfter to e delay in_ticks) h = refl
+    by_form at f h = cc
+
+    by_stmt : (o : Option Stmt) → is_more (put_at o x scope) ≡ true → scope ≡ scope_of_step (put_at o x scope ++ ts)
+    by_stmt None h = cc
+    by_stmt (Some s) h = by_form s.at s.form h
+
+pub first_scope : (d : Parts) (xs : List Frame) (f : Frame) → slice_get xs (length xs - 1) ≡ Some f → IsSettled d (reverse xs)
+    → scope_in f ≡ scope_of_step (todos_of d (reverse xs))
+first_scope d xs f g h =
+    let split = last_first xs f g in
+    scope_at d f (todos_of d (drop 1 (reverse xs))) (subst (IsSettled d) split h) ∙ sym (ap (λ (fs : List Frame). scope_of_step (todos_of d fs)) split)
+
+-- ---- what is left after it
+
+pub left_rest : (d : Parts) (xs ys zs : List Frame) (p : Position) (scope : Option Name) → xs ≡ ys ++ frame.Rest p scope ∷ [] → p.place < length (body_of d p.routine)
+    → zs ≡ ys ++ frame.Rest (record { routine = p.routine; place = p.place + 1 }) scope ∷ [] → todos_of d (reverse zs) ≡ drop 1 (todos_of d (reverse xs))
+left_rest d xs ys zs p scope e h g =
+    let old : todos_of d (reverse xs) ≡ rest_at d p scope ++ todos_of d (reverse ys) =
+    ap (λ (u : List Frame). todos_of d (reverse u)) e ∙ ap (todos_of d) (push_first ys (frame.Rest p scope)) in
+    let q : Position = record { routine = p.routine; place = p.place + 1 } in
+    let new : todos_of d (reverse zs) ≡ rest_at d q scope ++ todos_of d (reverse ys) =
+    ap (λ (u : List Frame). todos_of d (reverse u)) g ∙ ap (todos_of d) (push_first ys (frame.Rest q scope)) in
+    new ∙ one_less p.place (body_of d p.routine) h (todos_of d (reverse ys)) ∙ sym (ap (drop 1) old)
+  where
+    one_less : (n : ℕ) (ss : List Stmt) → n < length ss → (ts : List Todo) → map (to_do scope) (drop (n + 1) ss) ++ ts ≡ drop 1 (map (to_do scope) (drop n ss) ++ ts)
+    one_less n [] h ts = absurd (omega arith)
+    one_less zero (s ∷ ss) h ts = refl
+    one_less (suc n) (s ∷ ss) h ts =
+        let e : suc n + 1 ≡ suc (n + 1) = omega arith in
+        ap (λ k. map (to_do scope) (drop k (s ∷ ss)) ++ ts) e ∙ one_less n ss (omega arith) ts
+
+-- an entry of one thing
+left_one : (d : Parts) (xs ys : List Frame) (f : Frame) → xs ≡ ys ++ f ∷ [] → ((ts : List Todo) → ts ≡ drop 1 (todos_in d f ++ ts))
+    → todos_of d (reverse ys) ≡ drop 1 (todos_of d (reverse xs))
+left_one d xs ys f e one =
+    let old : todos_of d (reverse xs) ≡ todos_in d f ++ todos_of d (reverse ys) = ap (λ (u : List Frame). todos_of d (reverse u)) e ∙ ap (todos_of d) (push_first ys f) in
+    one (todos_of d (reverse ys)) ∙ sym (ap (drop 1) old)
+
+-- the entry that comes first has something left
+settled_top : (d : Parts) (xs ys : List Frame) (f : Frame) → xs ≡ ys ++ f ∷ [] → IsSettled d (reverse xs) → is_more (todos_in d f) ≡ true
+settled_top d xs ys f e h = subst (IsSettled d) (ap reverse e ∙ push_first ys f) h
+
+pub left_loop : (d : Parts) (xs ys : List Frame) (p : Position) (scope : Option Name) → xs ≡ ys ++ frame.Loop p scope ∷ [] → IsSettled d (reverse xs)
+    → todos_of d (reverse ys) ≡ drop 1 (todos_of d (reverse xs))
+left_loop d xs ys p scope e h = left_one d xs ys (frame.Loop p scope) e (by_stmt (stmt_at d p) (settled_top d xs ys (frame.Loop p scope) e h))
+  where
+    by_stmt : (o : Option Stmt) → is_more (turn_at o scope) ≡ true → (ts : List Todo) → ts ≡ drop 1 (turn_at o scope ++ ts)
+    by_stmt None h ts = cc
+    by_stmt (Some s) h ts = refl
+
+pub left_turns : (d : Parts) (xs ys : List Frame) (p : Position) (n : ℕ) (scope : Option Name) → xs ≡ ys ++ frame.Turns p n scope ∷ []
+    → IsSettled d (reverse xs) → todos_of d (reverse ys) ≡ drop 1 (todos_of d (reverse xs))
+left_turns d xs ys p n scope e h = left_one d xs ys (frame.Turns p n scope) e (by_stmt (stmt_at d p) (settled_top d xs ys (frame.Turns p n scope) e h))
+  where
+    by_form : (at : Place) (f : Form) → is_more (turns_of at f n scope) ≡ true → (ts : List Todo) → ts ≡ drop 1 (turns_of at f n scope ++ ts)
+    by_form at (form.Repeat e body) h ts = refl
+    by_form at f h ts = cc
+
+    by_stmt : (o : Option Stmt) → is_more (turns_at o n scope) ≡ true → (ts : List Todo) → ts ≡ drop 1 (turns_at o n scope ++ ts)
+    by_stmt None h ts = cc
+    by_stmt (Some s) h ts = by_form s.at s.form h ts
+
+pub left_put : (d : Parts) (xs ys : List Frame) (p : Position) (x : Val) (scope : Option Name) → xs ≡ ys ++ frame.Put p x scope ∷ []
+    → IsSettled d (reverse xs) → todos_of d (reverse ys) ≡ drop 1 (todos_of d (reverse xs))
+left_put d xs ys p x scope e h = left_one d xs ys (frame.Put p x scope) e (by_stmt (stmt_at d p) (settled_top d xs ys (frame.Put p x scope) e h))
+  where
+    by_form : (at : Place) (f : Form) → is_more (put_of at f x scope) ≡ true → (ts : List Todo) → ts ≡ drop 1 (put_of at f x scope ++ ts)
+    by_form at (form.AssignAfter to e delay in_ticks) h ts = refl
+    by_form at f h ts = cc
+
+    by_stmt : (o : Option Stmt) → is_more (put_at o x scope) ≡ true → (ts : List Todo) → ts ≡ drop 1 (put_at o x scope ++ ts)
+    by_stmt None h ts = cc
+    by_stmt (Some s) h ts = by_form s.at s.form h ts
+
+-- whether something is left, by the number of entries
+pub more_left : (d : Parts) (xs : List Frame) → IsSettled d (reverse xs) → is_more (todos_of d (reverse xs)) ≡ not (length xs == 0)
+more_left d [] h = refl
+more_left d (x ∷ xs) h =
+    let l = last_of x xs in
+    let top = settled_top d (x ∷ xs) l.0 l.1 l.2 h in
+    ap (λ (u : List Frame). is_more (todos_of d (reverse u))) l.2 ∙ ap (λ u. is_more (todos_of d u)) (push_first l.0 l.1)
+    ∙ more_in (todos_in d l.1) (todos_of d (reverse l.0)) top ∙ not_zero (length xs)
+  where
+    not_zero : (n : ℕ) → true ≡ not (suc n == 0)
+    not_zero n = grind (arith, nat_tests)
+
+    more_in : (ts us : List Todo) → is_more ts ≡ true → is_more (ts ++ us) ≡ true
+    more_in [] us h = cc
+    more_in (t ∷ ts) us h = refl
+
+-- ---- the beginning of a routine
+
+pub begun : (d : Parts) (r : RoutineId) (scope : Option Name) (fs : List Frame) → fs ≡ frame.Rest (record { routine = r; place = 0 }) scope ∷ []
+    → todos_of d fs ≡ body_in d r scope
+begun d r scope fs e = ap (todos_of d) e ∙ append-nil (body_in d r scope)

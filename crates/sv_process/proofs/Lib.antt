@@ -1,0 +1,10 @@
+pub mod EndLemmas
+pub mod FrameLemmas
+pub mod JumpLemmas
+pub mod LoopLemmas
+pub mod WaitLemmas
+pub mod PrintLemmas
+pub mod AssignLemmas
+pub mod LaterLemmas
+pub mod StepLemmas
+pub mod CaseLemmas

@@ -1,0 +1,90 @@
+-- The effects of a step, as the definitions have them.
+use Rattle.std.specs.Prelude.{◌≡◌, List, [], ◌∷◌, Option, None, Some, Result, Ok, Err, map}
+use Rattle.sv_flat.specs.declared.stmt.Stmt.{Stmt}
+use Rattle.sv_flat.specs.declared.stmt.Form.{Form}
+use Rattle.sv_flat.specs.declared.stmt.Form.TheVariants as form
+use Rattle.sv_flat.specs.declared.stmt.PrintKind.TheVariants as print
+use Rattle.sv_flat.specs.declared.design.Parts.{Parts}
+use Rattle.sv_flat.specs.Process.{Remain, Write, Suspend, Resume_at, Update_at, Print_text, Keep_print, Finish_run, End, Fail}
+use Rattle.sv_flat.specs.Process.{Effect, Turn_in_slot, Watches}
+use Rattle.sv_flat.specs.Statements.Shared.{Effects, fails}
+use Rattle.sv_built.specs.Positions.{stmt_at}
+use Rattle.sv_built.specs.Waits.{watches_at}
+use Rattle.sv_eval.specs.declared.stopped.Stopped.{Stopped}
+use Rattle.sv_eval.specs.declared.stopped.Stopped.TheVariants.{Memory, Fault}
+use Rattle.sv_process.specs.declared.effect.Effect.{Effect as Own_effect}
+use Rattle.sv_process.specs.declared.effect.Effect.TheVariants as effect
+use Rattle.sv_process.specs.declared.frames.Frame.{Frame}
+use Rattle.sv_process.specs.declared.went.Went.{Went}
+use Rattle.sv_process.specs.declared.went.Went.TheVariants as went
+use Rattle.sv_process.specs.Frames.{todos_of}
+use Rattle.sv_assign.specs.Places.{spot_in}
+
+-- what a `$strobe` prints as the slot ends
+abbrev pub strobe_of : Form → Effect
+strobe_of (form.Print k pieces es) = Keep_print print.Strobe pieces es
+strobe_of f = Keep_print print.Strobe [] []
+
+-- what the `$strobe` that stands somewhere prints
+abbrev pub strobe_at : Option Stmt → Effect
+strobe_at None = Keep_print print.Strobe [] []
+strobe_at (Some s) = strobe_of s.form
+
+-- an effect
+abbrev pub effect_in : Parts → Own_effect → Effect
+effect_in d (effect.Write t x) = Write (spot_in t) x
+effect_in d effect.Turn = Suspend Turn_in_slot
+effect_in d (effect.Watch w scope) = Suspend (Watches (watches_at d w) scope)
+effect_in d (effect.ResumeAt t) = Resume_at t
+effect_in d (effect.UpdateAt t j) = Update_at t j
+effect_in d (effect.Print t) = Print_text t
+effect_in d (effect.Strobe p) = strobe_at (stmt_at d p)
+effect_in d effect.Finish = Finish_run
+effect_in d effect.End = End
+effect_in d (effect.Fail k) = Fail k
+
+-- effects
+abbrev pub effects_in : Parts → List Own_effect → Effects
+effects_in d es = map (effect_in d) es
+
+-- the effects of a step, by what is left then
+abbrev pub effects_of : Parts → Went → List Frame → List Own_effect → Effects
+effects_of d went.On fs es = Remain (todos_of d fs) ∷ effects_in d es
+effects_of d went.Held fs es = effects_in d es
+
+-- a step leaves these entries, and does these effects
+abbrev pub Leaves : Parts → List Frame → List Own_effect → Effects → Type 0
+Leaves d fs es all = all ≡ Remain (todos_of d fs) ∷ effects_in d es
+
+-- a step is stopped by this fault, or for want of memory
+abbrev pub IsStopped : Stopped → Effects → Type 0
+IsStopped (Fault k) all = all ≡ fails k
+IsStopped Memory all = Unit {0}
+
+-- a step leaves these entries, and does these effects, or it is stopped
+abbrev pub Does : {A : Type 0} → Parts → Result A Stopped → List Frame → List Own_effect → Effects → Type 0
+Does d (Ok x) fs es all = Leaves d fs es all
+Does d (Err e) fs es all = IsStopped e all
+
+-- what stopped a step is a fault
+abbrev pub OnFault : Stopped → Type 0 → Type 0
+OnFault (Fault k) P = P
+OnFault Memory P = Unit {0}
+
+-- where a fault is met, the entries are as they were
+abbrev pub IsKept : {A : Type 0} → Result A Stopped → (old new : List Frame) → Type 0
+IsKept (Ok x) old new = Unit {0}
+IsKept (Err e) old new = OnFault e (new ≡ old)
+
+-- ---- a whole step
+
+-- a step that came so far does these effects, or it is stopped
+abbrev pub Runs : Parts → Result Went Stopped → List Frame → List Own_effect → Effects → Type 0
+Runs d (Ok w) fs es all = all ≡ effects_of d w fs es
+Runs d (Err e) fs es all = IsStopped e all
+
+-- where nothing is left to run, or a fault is met, the entries are as they were
+abbrev pub RunsKept : Result Went Stopped → (old new : List Frame) → Type 0
+RunsKept (Ok went.On) old new = Unit {0}
+RunsKept (Ok went.Held) old new = new ≡ old
+RunsKept (Err e) old new = OnFault e (new ≡ old)

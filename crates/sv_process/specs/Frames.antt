@@ -1,0 +1,137 @@
+-- What the entries of the stack of a process stand for.
+use Rattle.std.specs.Prelude.{ℕ, ◌≡◌, Bool, true, false, List, [], ◌∷◌, ◌++◌, Option, None, Some, drop, map}
+use Rattle.sv_value.specs.declared.place.Place.{Place}
+use Rattle.sv_value.specs.declared.number.RoutineId.{RoutineId}
+use Rattle.sv_value.specs.declared.val.Val.{Val}
+use Rattle.sv_flat.specs.declared.target.Lvalue.{Lvalue}
+use Rattle.sv_flat.specs.declared.stmt.Stmt.{Stmt}
+use Rattle.sv_flat.specs.declared.stmt.Form.{Form}
+use Rattle.sv_flat.specs.declared.stmt.Form.TheVariants as form
+use Rattle.sv_flat.specs.declared.design.Parts.{Parts}
+use Rattle.sv_flat.specs.Expr.{Expr}
+use Rattle.sv_flat.specs.State.{View, Name}
+use Rattle.sv_flat.specs.Micro.{Looks}
+use Rattle.sv_flat.specs.Process.{Todo, Do, Turn, Turns, Walk, Walk_elements, Start_children, Leave, Receive, Put}
+use Rattle.sv_flat.specs.Statements.Jumps.{step_of}
+use Rattle.sv_built.specs.declared.position.Position.{Position}
+use Rattle.sv_built.specs.Positions.{body_of, stmt_at}
+use Rattle.sv_process.specs.declared.frames.Frame.{Frame}
+use Rattle.sv_process.specs.declared.frames.Frame.TheVariants as frame
+use Rattle.sv_process.specs.declared.frames.First.{First}
+use Rattle.sv_process.specs.declared.frames.First.TheVariants as first
+
+-- a statement with all of its calls, to run in a scope
+abbrev pub to_do : (scope : Option Name) → Stmt → Todo
+to_do scope s = Do s s.calls scope None
+
+-- the statements of a routine from a place on
+abbrev pub rest_at : Parts → Position → (scope : Option Name) → List Todo
+rest_at d p scope = map (to_do scope) (drop p.place (body_of d p.routine))
+
+-- the next test of a loop
+abbrev pub turn_at : Option Stmt → (scope : Option Name) → List Todo
+turn_at None scope = []
+turn_at (Some s) scope = Turn s scope ∷ []
+
+-- so many turns of a `repeat`
+abbrev pub turns_of : Place → Form → ℕ → (scope : Option Name) → List Todo
+turns_of at (form.Repeat e body) n scope = Turns at n body scope ∷ []
+turns_of at f n scope = []
+
+-- so many turns of the `repeat` that stands somewhere
+abbrev pub turns_at : Option Stmt → ℕ → (scope : Option Name) → List Todo
+turns_at None n scope = []
+turns_at (Some s) n scope = turns_of s.at s.form n scope
+
+-- what is left of an `a = #d e`
+abbrev pub put_of : Place → Form → Val → (scope : Option Name) → List Todo
+put_of at (form.AssignAfter ts e delay in_ticks) x scope = Put at ts x scope ∷ []
+put_of at f x scope = []
+
+-- what is left of the `a = #d e` that stands somewhere
+abbrev pub put_at : Option Stmt → Val → (scope : Option Name) → List Todo
+put_at None x scope = []
+put_at (Some s) x scope = put_of s.at s.form x scope
+
+-- what an entry stands for
+abbrev pub todos_in : Parts → Frame → List Todo
+todos_in d (frame.Rest p scope) = rest_at d p scope
+todos_in d (frame.Loop p scope) = turn_at (stmt_at d p) scope
+todos_in d (frame.Turns p n scope) = turns_at (stmt_at d p) n scope
+todos_in d (frame.Put p x scope) = put_at (stmt_at d p) x scope
+
+-- the scope in which the statements of an entry run
+abbrev pub scope_in : Frame → Option Name
+scope_in (frame.Rest p scope) = scope
+scope_in (frame.Loop p scope) = scope
+scope_in (frame.Turns p n scope) = scope
+scope_in (frame.Put p x scope) = scope
+
+-- what a stack stands for, innermost first
+abbrev pub todos_of : Parts → List Frame → List Todo
+todos_of d [] = []
+todos_of d (f ∷ fs) = todos_in d f ++ todos_of d fs
+
+-- whether something is left
+abbrev pub is_more : List Todo → Bool
+is_more [] = false
+is_more (t ∷ ts) = true
+
+-- something is left of the first entry
+abbrev pub IsSettled : Parts → List Frame → Type 0
+IsSettled d [] = Unit {0}
+IsSettled d (f ∷ fs) = is_more (todos_in d f) ≡ true
+
+-- this comes first of all that is left
+abbrev pub IsFirst : Parts → First → List Todo → Type 0
+IsFirst d first.Nothing ts = ts ≡ []
+IsFirst d (first.Stmt p scope) ts = (s : Stmt) → stmt_at d p ≡ Some s → ts ≡ to_do scope s ∷ drop 1 ts
+IsFirst d (first.Loop p scope) ts = (s : Stmt) → stmt_at d p ≡ Some s → ts ≡ Turn s scope ∷ drop 1 ts
+IsFirst d (first.Turns p n scope) ts =
+    (s : Stmt) (e : Expr) (body : RoutineId) → stmt_at d p ≡ Some s → s.form ≡ form.Repeat e body → ts ≡ Turns s.at n body scope ∷ drop 1 ts
+IsFirst d (first.Put p x scope) ts =
+    (s : Stmt) (to : List Lvalue) (e delay : Expr) (in_ticks : Bool) → stmt_at d p ≡ Some s → s.form ≡ form.AssignAfter to e delay in_ticks
+    → ts ≡ Put s.at to x scope ∷ drop 1 ts
+
+-- ---- scopes
+
+-- the scope that the expressions of a statement see: where it has calls, the activation of its hidden variables
+abbrev pub seen_from : (outer hidden : Option Name) → Option Name
+seen_from outer None = outer
+seen_from outer (Some n) = Some n
+
+-- the scope that the next step sees first
+abbrev pub scope_of_step : List Todo → Option Name
+scope_of_step [] = None
+scope_of_step (Do s cs outer hidden ∷ ts) = seen_from outer hidden
+scope_of_step (Turn s scope ∷ ts) = scope
+scope_of_step (Turns at n body scope ∷ ts) = scope
+scope_of_step (Walk s i outer scope ∷ ts) = outer
+scope_of_step (Walk_elements s n scope ∷ ts) = scope
+scope_of_step (Start_children at cs j scope ∷ ts) = scope
+scope_of_step (Leave at r ∷ ts) = r.callee
+scope_of_step (Receive at to w scope ∷ ts) = scope
+scope_of_step (Put at to x scope ∷ ts) = scope
+
+-- what comes first of a stack sees this
+abbrev pub Sees : Parts → Looks → List Frame → View → Type 0
+Sees d look fs v = look (scope_of_step (todos_of d fs)) ≡ v
+
+-- ---- loops
+
+-- whether an entry is that of a loop
+abbrev pub is_turn : Parts → Frame → Bool
+is_turn d (frame.Rest p scope) = false
+is_turn d (frame.Loop p scope) = is_more (turn_at (stmt_at d p) scope)
+is_turn d (frame.Turns p n scope) = is_more (turns_at (stmt_at d p) n scope)
+is_turn d (frame.Put p x scope) = false
+
+-- what the loop that stands somewhere does after its body
+abbrev pub step_at : Option Stmt → Option RoutineId
+step_at None = None
+step_at (Some s) = step_of s.form
+
+-- what the loop of an entry does after its body
+abbrev pub step_in : Parts → Frame → Option RoutineId
+step_in d (frame.Loop p scope) = step_at (stmt_at d p)
+step_in d f = None

@@ -1,0 +1,6 @@
+-- ---- what a process has still to run
+pub mod Frames
+-- ---- what a step does
+pub mod Effects
+-- ---- what statements do, by their parts
+pub mod Parts

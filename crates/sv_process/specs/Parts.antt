@@ -1,0 +1,43 @@
+-- What statements do, by what they see and what is left after them.
+use Rattle.std.specs.Prelude.{Option, None, ◌≡◌, ◌+◌, ◌^◌, ℕ, true, false, List, [], ◌∷◌, Result, Ok, Err, nat_lt}
+use Rattle.sv_value.specs.declared.place.FaultKind.TheVariants as fault
+use Rattle.sv_eval.specs.declared.stopped.Stopped.{Stopped}
+use Rattle.sv_eval.specs.declared.stopped.Stopped.TheVariants.{Memory, Fault}
+use Rattle.sv_value.specs.declared.val.Val.{Val}
+use Rattle.sv_value.specs.declared.val.Val.TheVariants as val
+use Rattle.sv_value.specs.declared.schedule.Job.TheVariants as job
+use Rattle.sv_value.specs.declared.number.ProcessId.{ProcessId}
+use Rattle.sv_flat.specs.declared.design.Parts.{Parts}
+use Rattle.sv_flat.specs.declared.stmt.Stmt.{Stmt}
+use Rattle.sv_flat.specs.declared.stmt.Form.{Form}
+use Rattle.sv_flat.specs.declared.target.Lvalue.{Lvalue}
+use Rattle.sv_flat.specs.State.{View, Name}
+use Rattle.sv_flat.specs.Targets.{target_values}
+use Rattle.sv_flat.specs.Process.{Update_at}
+use Rattle.sv_flat.specs.Process.{Todo, Spot}
+use Rattle.sv_flat.specs.Statements.{executed}
+use Rattle.sv_flat.specs.Statements.Delays.{at_moment}
+use Rattle.sv_flat.specs.Statements.Shared.{Effects, goes_on, updates_for, written}
+
+-- a text as a value
+abbrev pub text_of : List ℕ → Val
+text_of t = val.Text t
+
+-- an assignment to places
+abbrev pub writes : List Todo → List Lvalue → List Spot → Val → Effects
+writes rest ts ss x = goes_on rest (written ss (target_values ts x))
+
+-- the updates of places, so many ticks from now
+abbrev pub updates : View → List Todo → List Lvalue → Val → ℕ → List Spot → Effects
+updates v rest ts x n ss = at_moment n v (λ t. goes_on rest (Update_at t (job.Update (updates_for ss (target_values ts x))) ∷ []))
+
+-- there is a moment so many ticks from now, and this is it, or it lies past the end of time
+abbrev pub Reaches : Result ℕ Stopped → View → ℕ → Type 0
+Reaches (Ok t) v n = (t ≡ v.now + n) × (nat_lt (v.now + n) (2 ^ 63) ≡ true)
+Reaches (Err (Fault k)) v n = (k ≡ fault.Time) × (nat_lt (v.now + n) (2 ^ 63) ≡ false)
+Reaches (Err Memory) v n = Unit {0}
+
+-- a statement without calls, in a scope that sees this
+abbrev pub stmt_run : Parts → ProcessId → (next : Name) → (scope : Option Name) → View → Stmt → Form → List Todo → Effects
+stmt_run d p next scope v s f rest =
+    executed d p s f scope (record { at = s.at; view = v; scope = scope; next = next; hidden = None; rest = rest })

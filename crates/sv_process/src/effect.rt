@@ -1,0 +1,29 @@
+// What a step of a process does beside leaving something to run.
+use sv_arena::Name;
+use sv_built::{Position, Wait};
+use sv_value::{FaultKind, Job, Target, Text, Val};
+
+/// An effect of a step, beside what the process has still to run.
+#[derive(Drop)]
+pub enum Effect {
+    /// A value is written.
+    Write { target: Target, value: Val },
+    /// The process waits for the other processes of the slot.
+    Turn,
+    /// The process waits for a change, as seen from a scope.
+    Watch { wait: Wait, scope: Option<Name> },
+    /// The process waits until a moment.
+    ResumeAt(u64),
+    /// A job is done at a moment, now or later.
+    UpdateAt { time: u64, job: Job },
+    /// A record.
+    Print(Text),
+    /// What the statement at a position prints as the slot ends.
+    Strobe(Position),
+    /// `$finish`
+    Finish,
+    /// The process is at the end of its body.
+    End,
+    /// A fault is met.
+    Fail(FaultKind),
+}

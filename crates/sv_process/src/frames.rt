@@ -1,0 +1,346 @@
+// What a process has still to run: a stack of places in routines, each with the scope in which its statements run.
+ghost use Rattle.std.specs.Prelude.{◌≡◌, ◌∷◌, ◌<◌, [], ℕ, Option, None, drop, reverse, length, OnOk, IfOk, IfSome, IfNone};
+ghost use Rattle.sv_value.specs.declared.val.Val.{Val};
+ghost use Rattle.sv_flat.specs.declared.design.Parts.{Parts};
+ghost use Rattle.sv_flat.specs.Process.{body_in};
+ghost use Rattle.sv_flat.specs.State.{Name};
+ghost use Rattle.sv_built.specs.Positions.{stmt_at};
+ghost use Rattle.sv_process.specs.declared.frames.Frame.TheVariants.{Rest};
+ghost use Rattle.sv_process.specs.Frames.{todos_in, todos_of, turn_at, turns_at, put_at, scope_in, scope_of_step, is_more, IsFirst, IsSettled};
+
+use std::alloc::Global;
+use std::marker::Model;
+use sv_arena::Name;
+use sv_built::{Design, Position};
+use sv_flat::Form;
+use sv_value::{NoMemory, RoutineId, Val};
+
+/// Something that a process has still to run, in a scope.
+pub enum Frame {
+    /// The statements of a routine from a place on.
+    Rest {
+        at: Position,
+        scope: Option<Name>,
+    },
+    /// The next test of the `while` or `forever` at a position, which was entered.
+    Loop {
+        at: Position,
+        scope: Option<Name>,
+    },
+    /// So many turns of the `repeat` at a position.
+    Turns {
+        at: Position,
+        left: u64,
+        scope: Option<Name>,
+    },
+    /// What is left of the `a = #d e` at a position.
+    Put {
+        at: Position,
+        value: Val,
+        scope: Option<Name>,
+    },
+}
+
+impl Drop for Frame {
+    fn drop(self) {
+        match self {
+            Frame::Rest { at: _, scope: _ } => {}
+            Frame::Loop { at: _, scope: _ } => {}
+            Frame::Turns {
+                at: _,
+                left: _,
+                scope: _,
+            } => {}
+            Frame::Put {
+                at: _,
+                value: _,
+                scope: _,
+            } => {}
+        }
+    }
+}
+
+/// What comes first of all that is left, in its scope.
+#[derive(Drop)]
+pub enum First {
+    /// Nothing is left.
+    Nothing,
+    /// The statement at a position.
+    Stmt {
+        at: Position,
+        scope: Option<Name>,
+    },
+    /// The next test of the loop at a position.
+    Loop {
+        at: Position,
+        scope: Option<Name>,
+    },
+    /// So many turns of the `repeat` at a position.
+    Turns {
+        at: Position,
+        left: u64,
+        scope: Option<Name>,
+    },
+    /// What is left of the `a = #d e` at a position, with its value.
+    Put {
+        at: Position,
+        value: Val,
+        scope: Option<Name>,
+    },
+}
+
+/// What a process has still to run, innermost last. It is seen as the list of its entries, innermost first.
+#[derive(Drop)]
+pub struct Frames {
+    stack: Vec<Frame>,
+}
+
+impl Model for Frames {
+    ghost use Rattle.std.specs.Prelude.{List, reverse};
+    ghost use Rattle.sv_process.specs.declared.frames.Frame.{Frame};
+
+    ghost Value = { List Frame };
+
+    ghost view = { λ f. reverse f.stack.items };
+}
+
+impl Frames {
+    /// At the beginning of a routine, in a scope.
+    #[tactic(auto, using(crate::proofs::FrameLemmas::begun))]
+    pub fn new(alloc: Global, routine: RoutineId, scope: Option<Name>) -> Result<Self, NoMemory>
+        ensures entry { IfOk result (λ f. f ≡ Rest (record { routine = routine; place = 0 }) scope ∷ []) }
+        ensures todos { IfOk result (λ f. (d : Parts) → todos_of d f ≡ body_in d routine scope) }
+    {
+        let mut stack = Vec::new(alloc);
+        stack.push(Frame::Rest {
+            at: Position { routine, place: 0 },
+            scope,
+        })?;
+        Ok(Frames { stack })
+    }
+
+    /// Nothing is left.
+    pub fn clear(&mut self)
+        ensures { self.new ≡ [] }
+    {
+        self.stack.clear();
+    }
+
+    /// From the beginning of a routine, outside of all activations, with nothing else left.
+    #[tactic(auto, using(crate::proofs::FrameLemmas::begun))]
+    pub fn begin(&mut self, routine: RoutineId) -> Result<(), NoMemory>
+        ensures entry { OnOk result (self.new ≡ Rest (record { routine = routine; place = 0 }) None ∷ []) }
+        ensures todos { OnOk result ((d : Parts) → todos_of d self.new ≡ body_in d routine None) }
+    {
+        self.clear();
+        self.enter(routine, None)?;
+        Ok(())
+    }
+
+    /// An entry comes before the others.
+    pub fn push(&mut self, frame: Frame) -> Result<(), NoMemory>
+        ensures { OnOk result (self.new ≡ frame ∷ self.old) }
+    {
+        self.stack.push(frame)?;
+        Ok(())
+    }
+
+    /// Takes the entry that comes first.
+    pub fn pop(&mut self) -> Option<Frame>
+        ensures some { IfSome result (λ f. self.old ≡ f ∷ self.new) }
+        ensures none { IfNone result ((self.old ≡ []) × (self.new ≡ [])) }
+        ensures fewer { IfSome result (λ _. length self.new < length self.old) }
+    {
+        self.stack.pop()
+    }
+
+    /// A routine comes before the others, to run in a scope.
+    pub fn enter(&mut self, routine: RoutineId, scope: Option<Name>) -> Result<(), NoMemory>
+        ensures { OnOk result (self.new ≡ Rest (record { routine = routine; place = 0 }) scope ∷ self.old) }
+    {
+        self.push(Frame::Rest {
+            at: Position { routine, place: 0 },
+            scope,
+        })
+    }
+
+    /// The scope that what comes first sees. Where nothing is left, that is outside of all activations.
+    pub fn scope(&mut self, design: &Design) -> Option<Name>
+        ensures same { todos_of design.now self.new ≡ todos_of design.now self.old }
+        ensures scope { result ≡ scope_of_step (todos_of design.now self.new) }
+    {
+        settle(&mut self.stack, design);
+        scope_of(&self.stack, design)
+    }
+
+    /// What comes first.
+    pub fn first(&mut self, alloc: Global, design: &Design) -> Result<First, NoMemory>
+        ensures same { todos_of design.now self.new ≡ todos_of design.now self.old }
+        ensures first { IfOk result (λ f. IsFirst design.now f (todos_of design.now self.new)) }
+    {
+        settle(&mut self.stack, design);
+        first_of(alloc, &self.stack)
+    }
+
+    /// Leaves what comes first.
+    pub fn leave_first(&mut self, design: &Design) -> Result<(), NoMemory>
+        ensures { OnOk result (todos_of design.now self.new ≡ drop 1 (todos_of design.now self.old)) }
+    {
+        settle(&mut self.stack, design);
+        leave_top(&mut self.stack, design)
+    }
+
+    /// Whether something is left.
+    pub fn is_more(&mut self, design: &Design) -> bool
+        ensures same { todos_of design.now self.new ≡ todos_of design.now self.old }
+        ensures more { result ≡ is_more (todos_of design.now self.new) }
+    {
+        settle(&mut self.stack, design);
+        !self.stack.is_empty()
+    }
+}
+
+/// Whether something is left of an entry.
+#[tactic(auto, using(crate::proofs::FrameLemmas::more_rest))]
+fn is_live(frame: &Frame, design: &Design) -> bool
+    ensures { result ≡ is_more (todos_in design.now frame.now) }
+{
+    match frame {
+        Frame::Rest { at, .. } => at.place < design.body(at.routine).len(),
+        Frame::Loop { at, .. } => is_stmt(design, *at),
+        Frame::Turns { at, .. } => is_repeat(design, *at),
+        Frame::Put { at, .. } => is_put(design, *at),
+    }
+}
+
+/// Whether a statement stands there.
+pub fn is_stmt(design: &Design, at: Position) -> bool
+    ensures { (scope : Option Name) → result ≡ is_more (turn_at (stmt_at design.now at) scope) }
+{
+    match design.body(at.routine).get(at.place) {
+        Some(_) => true,
+        None => false,
+    }
+}
+
+/// Whether a `repeat` stands there.
+pub fn is_repeat(design: &Design, at: Position) -> bool
+    ensures { (n : ℕ) (scope : Option Name) → result ≡ is_more (turns_at (stmt_at design.now at) n scope) }
+{
+    match design.body(at.routine).get(at.place) {
+        Some(stmt) => match &stmt.form {
+            Form::Repeat { .. } => true,
+            _ => false,
+        },
+        None => false,
+    }
+}
+
+/// Whether an `a = #d e` stands there.
+fn is_put(design: &Design, at: Position) -> bool
+    ensures { (x : Val) (scope : Option Name) → result ≡ is_more (put_at (stmt_at design.now at) x scope) }
+{
+    match design.body(at.routine).get(at.place) {
+        Some(stmt) => match &stmt.form {
+            Form::AssignAfter { .. } => true,
+            _ => false,
+        },
+        None => false,
+    }
+}
+
+/// Drops the entries of which nothing is left.
+fn settle(stack: &mut Vec<Frame>, design: &Design)
+    ensures same { todos_of design.now (reverse stack.new.items) ≡ todos_of design.now (reverse stack.old.items) }
+    ensures settled { IsSettled design.now (reverse stack.new.items) }
+{
+    while let Some(top) = stack.last() {
+        if is_live(top, design) {
+            return;
+        }
+        stack.pop();
+    }
+}
+
+/// What comes first.
+#[tactic(auto, using(crate::proofs::FrameLemmas::first_nothing, crate::proofs::FrameLemmas::first_stmt, crate::proofs::FrameLemmas::first_loop, crate::proofs::FrameLemmas::first_turns, crate::proofs::FrameLemmas::first_put))]
+fn first_of(alloc: Global, stack: &Vec<Frame>) -> Result<First, NoMemory>
+    ensures { IfOk result (λ f. (d : Parts) → IsFirst d f (todos_of d (reverse stack.now.items))) }
+{
+    match stack.last() {
+        None => Ok(First::Nothing),
+        Some(Frame::Rest { at, scope }) => Ok(First::Stmt {
+            at: *at,
+            scope: *scope,
+        }),
+        Some(Frame::Loop { at, scope }) => Ok(First::Loop {
+            at: *at,
+            scope: *scope,
+        }),
+        Some(Frame::Turns { at, left, scope }) => Ok(First::Turns {
+            at: *at,
+            left: *left,
+            scope: *scope,
+        }),
+        Some(Frame::Put { at, value, scope }) => {
+            let value = value.copy(alloc)?;
+            Ok(First::Put {
+                at: *at,
+                value,
+                scope: *scope,
+            })
+        }
+    }
+}
+
+/// The scope in which the statements of an entry run.
+pub fn scope_in(frame: &Frame) -> Option<Name>
+    ensures { result ≡ scope_in frame.now }
+{
+    match frame {
+        Frame::Rest { scope, .. } => *scope,
+        Frame::Loop { scope, .. } => *scope,
+        Frame::Turns { scope, .. } => *scope,
+        Frame::Put { scope, .. } => *scope,
+    }
+}
+
+/// The scope that what comes first sees.
+#[tactic(auto, using(crate::proofs::FrameLemmas::no_scope, crate::proofs::FrameLemmas::first_scope))]
+fn scope_of(stack: &Vec<Frame>, design: &Design) -> Option<Name>
+    requires { IsSettled design.now (reverse stack.now.items) }
+    ensures { result ≡ scope_of_step (todos_of design.now (reverse stack.now.items)) }
+{
+    let _ = design;
+    match stack.last() {
+        None => None,
+        Some(frame) => scope_in(frame),
+    }
+}
+
+/// Leaves what comes first.
+#[tactic(auto, using(crate::proofs::FrameLemmas::left_rest, crate::proofs::FrameLemmas::left_loop, crate::proofs::FrameLemmas::left_turns, crate::proofs::FrameLemmas::left_put))]
+fn leave_top(stack: &mut Vec<Frame>, design: &Design) -> Result<(), NoMemory>
+    requires { IsSettled design.now (reverse stack.old.items) }
+    ensures { OnOk result (todos_of design.now (reverse stack.new.items) ≡ drop 1 (todos_of design.now (reverse stack.old.items))) }
+{
+    match stack.pop() {
+        Some(frame) => match &frame {
+            Frame::Rest { at, scope } => {
+                if at.place >= design.body(at.routine).len() {
+                    return Err(NoMemory::Memory);
+                }
+                let at = Position {
+                    routine: at.routine,
+                    place: at.place + 1,
+                };
+                stack.push(Frame::Rest { at, scope: *scope })?;
+                Ok(())
+            }
+            Frame::Loop { .. } => Ok(()),
+            Frame::Turns { .. } => Ok(()),
+            Frame::Put { .. } => Ok(()),
+        },
+        None => Ok(()),
+    }
+}

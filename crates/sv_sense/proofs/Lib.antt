@@ -1,0 +1,11 @@
+pub mod EdgeLaws
+pub mod FireLaws
+pub mod BuiltLaws
+pub mod ObjectLaws
+pub mod WatcherLaws
+pub mod RegisterLaws
+pub mod HeardLaws
+pub mod TryLaws
+pub mod SenseLaws
+pub mod WokenLaws
+pub mod ChangeLaws

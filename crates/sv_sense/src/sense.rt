@@ -1,0 +1,187 @@
+// For what each process waits, and whom a change of an object wakes.
+ghost use Rattle.std.specs.Prelude.{◌≡◌, ◌<◌, IfOk, OnOk, OnErr, IsTrue, length, map, Some, None, [], slice_get, slice_set, slice_index_or};
+ghost use Rattle.sv_flat.specs.declared.design.Parts.{Parts};
+ghost use Rattle.sv_built.specs.Built.{IsBuilt};
+ghost use Rattle.sv_sense.specs.Objects as objects;
+ghost use Rattle.sv_sense.specs.Watchers.{Ascends, Registered};
+ghost use Rattle.sv_sense.specs.Wakes.{SameBut, fires_at, wait_of, waits_after, woken_from};
+ghost use Rattle.sv_sense.specs.Sensed.{Covers};
+
+use crate::objects::wait_objects;
+use crate::register::register;
+use crate::tries::{try_all, wait_of};
+use crate::watchers::Watchers;
+use std::alloc::Global;
+use std::marker::Model;
+use sv_built::{Design, Wait};
+use sv_eval::Values;
+use sv_flat::{Object, Process};
+use sv_value::{NoMemory, ObjId, ProcessId};
+
+/// For what each process waits, by number, and who watches each object.
+///
+/// A process stays among the watchers of an object once it came there, so one that waits again for the same needs no memory. It
+/// is tried in vain then.
+#[derive(Drop)]
+pub struct Sense {
+    waits: Vec<Option<Wait>>,
+    known: Vec<Option<Wait>>,
+    watchers: Vec<Watchers>,
+    all: Watchers,
+}
+
+impl Model for Sense {
+    ghost use Rattle.sv_sense.specs.Sensed.{Sensed};
+
+    ghost Value = { Sensed };
+
+    ghost view = { λ s. record { waits = s.waits.items; known = s.known.items; watchers = s.watchers.items; all = s.all } };
+}
+
+/// No process waits.
+fn nobody(alloc: Global, processes: &[Process]) -> Result<Vec<Option<Wait>>, NoMemory>
+    ensures { IfOk result (λ v. v.items ≡ map (λ p. None) processes.now) }
+{
+    let mut waits = Vec::new(alloc);
+    for _process in processes {
+        waits.push(None)?;
+    }
+    Ok(waits)
+}
+
+/// Nobody watches an object.
+fn unwatched(alloc: Global, objects: &[Object]) -> Result<Vec<Watchers>, NoMemory>
+    ensures { IfOk result (λ v. v.items ≡ map (λ o. []) objects.now) }
+{
+    let mut watchers = Vec::new(alloc);
+    for _object in objects {
+        watchers.push(Watchers::nobody(alloc))?;
+    }
+    Ok(watchers)
+}
+
+/// The watchers of an object: of one that the design has not, all processes.
+fn watchers_of<'a>(lists: &'a [Watchers], all: &'a Watchers, object: ObjId) -> &'a [ProcessId]
+    ensures items { result.now ≡ slice_index_or lists.now object.0 all.now }
+    ensures ascends { Ascends 0 result.now }
+{
+    match lists.get(object.0 as usize) {
+        Some(list) => list.as_slice(),
+        None => all.as_slice(),
+    }
+}
+
+impl Sense {
+    /// No process waits.
+    #[tactic(auto, using(crate::proofs::SenseLaws::covers_none))]
+    pub fn new(alloc: Global, design: &Design) -> Result<Sense, NoMemory>
+        ensures waits { IfOk result (λ s. s.waits ≡ map (λ p. None) design.now.processes) }
+        ensures covers { IfOk result (λ s. Covers design.now s) }
+    {
+        let waits = nobody(alloc, design.processes())?;
+        let known = nobody(alloc, design.processes())?;
+        let watchers = unwatched(alloc, design.objects())?;
+        let all = Watchers::everyone(alloc, design.processes().len())?;
+        Ok(Sense {
+            waits,
+            known,
+            watchers,
+            all,
+        })
+    }
+
+    /// For what a process waits, if it does.
+    pub fn get(&self, process: ProcessId) -> Option<Wait>
+        requires { process.0 < length self.now.waits }
+        ensures value { result ≡ wait_of process self.now.waits }
+        ensures there { slice_get self.now.waits process.0 ≡ Some result }
+    {
+        self.waits[process.0 as usize]
+    }
+
+    /// Whether a process was registered last for this.
+    fn knows(&self, process: ProcessId, wait: Wait) -> bool
+        ensures { IsTrue result → wait_of process self.now.known ≡ Some wait }
+    {
+        match wait_of(self.known.as_slice(), process) {
+            Some(known) => known == wait,
+            None => false,
+        }
+    }
+
+    /// Puts a process among the watchers of all that is read by what it will wait for.
+    fn learn(
+        &mut self,
+        alloc: Global,
+        design: &Design,
+        process: ProcessId,
+        wait: Wait,
+    ) -> Result<(), NoMemory>
+        requires known { process.0 < length design.now.processes }
+        requires covers { Covers design.now self.old }
+        ensures waits { self.new.waits ≡ self.old.waits }
+        ensures covers { Covers design.now self.new }
+        ensures ok { OnOk result (Registered process (objects.wait_objects design.now wait) self.new.watchers self.new.all) }
+    {
+        if self.knows(process, wait) {
+            return Ok(());
+        }
+        let objects = wait_objects(alloc, design, wait)?;
+        register(&mut self.watchers, process, objects.as_slice())?;
+        self.known[process.0 as usize] = Some(wait);
+        Ok(())
+    }
+
+    /// A process waits from now on. Without memory it waits for what it waited for before.
+    pub fn wait(
+        &mut self,
+        alloc: Global,
+        design: &Design,
+        process: ProcessId,
+        wait: Wait,
+    ) -> Result<(), NoMemory>
+        requires known { process.0 < length design.now.processes }
+        requires covers { Covers design.now self.old }
+        ensures ok { OnOk result (self.new.waits ≡ slice_set self.old.waits process.0 (Some wait)) }
+        ensures err { OnErr result (self.new.waits ≡ self.old.waits) }
+        ensures covers { Covers design.now self.new }
+    {
+        self.learn(alloc, design, process, wait)?;
+        self.waits[process.0 as usize] = Some(wait);
+        Ok(())
+    }
+
+    /// A process waits no longer.
+    pub fn forget(&mut self, process: ProcessId)
+        requires { process.0 < length self.old.waits }
+        ensures waits { self.new.waits ≡ slice_set self.old.waits process.0 None }
+        ensures covers { (d : Parts) → Covers d self.old → Covers d self.new }
+    {
+        self.waits[process.0 as usize] = None;
+    }
+
+    /// Wakes the processes for whose wait a change of an object fires: they wait no longer, and are told, by number. A fault
+    /// in an evaluation fires nothing. Without memory some may be woken, and others not, so that the run must end.
+    pub fn fire<V: Values, W: Values>(
+        &mut self,
+        alloc: Global,
+        design: &Design,
+        object: ObjId,
+        old: &V,
+        new: &W,
+        woken: &mut Vec<ProcessId>,
+    ) -> Result<(), NoMemory>
+        requires built { IsBuilt design.now }
+        requires covers { Covers design.now self.old }
+        requires nobody { woken.old.items ≡ [] }
+        requires same { SameBut object (V.view old.now) (W.view new.now) }
+        ensures woken { OnOk result
+            (woken.new.items ≡ woken_from (fires_at design.now (V.view old.now) (W.view new.now)) 0 self.old.waits) }
+        ensures left { OnOk result
+            (self.new.waits ≡ waits_after (fires_at design.now (V.view old.now) (W.view new.now)) self.old.waits) }
+        ensures covers { OnOk result (Covers design.now self.new) }
+    {
+        let watchers = watchers_of(self.watchers.as_slice(), &self.all, object);
+        try_all(alloc, design, watchers, old, new, &mut self.waits, woken)
+    }
+}

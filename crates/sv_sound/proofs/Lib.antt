@@ -1,0 +1,11 @@
+pub mod Edges
+pub mod Weights
+pub mod Plain
+pub mod States
+pub mod Wakes
+pub mod Occurs
+pub mod EffectSound
+pub mod MicroPlain
+pub mod Opening
+pub mod Reached
+pub mod Room

@@ -1,0 +1,100 @@
+-- What an effect leaves in a run of a built design, in short (IEEE 1800-2017, 4.4, 9.4, 10.4 and 21.2).
+use Rattle.std.specs.Prelude.{ℕ, Bool, true, List, [], ◌∷◌, ◌++◌, ◌&&◌, Option, None, Some, length, remove, slice_set, if◌then◌else◌, ◌==◌}
+use Rattle.sv_value.specs.declared.number.ProcessId.{ProcessId}
+use Rattle.sv_value.specs.declared.val.Val.{Val}
+use Rattle.sv_value.specs.declared.schedule.Due.TheVariants.{Resume}
+use Rattle.sv_value.specs.Regions.{with_set, ready_in, front_of, idle_of}
+use Rattle.sv_flat.specs.declared.process.Process.{Process}
+use Rattle.sv_flat.specs.declared.process.ProcessKind.{ProcessKind}
+use Rattle.sv_flat.specs.declared.process.ProcessKind.TheVariants as kind
+use Rattle.sv_flat.specs.declared.process.Watch.{Watch}
+use Rattle.sv_flat.specs.declared.design.Parts.{Parts}
+use Rattle.sv_flat.specs.State.{Store}
+use Rattle.sv_flat.specs.Process
+use Rattle.sv_flat.specs.Process.{ProcessState, Running, Waiting, Moment, Turn_in_slot, Watches, Todo, Spot, Cell, body_in}
+use Rattle.sv_flat.specs.Config.{Config, Strobe, with_process, all_made_ready}
+use Rattle.sv_flat.specs.Steps.{acting, front, is_starter, waiting_starters}
+use Rattle.sv_flat.specs.Woken.{Changed, woken}
+use Rattle.sv_flat.specs.Effects.Writes.{changed_at, stored_over}
+
+-- ---- a process in another state
+
+-- a process in this state
+abbrev pub with_state : ProcessId → ProcessState → Config → Config
+with_state p q c = record c { processes = slice_set c.processes p.0 q }
+
+-- what a process has still to run
+abbrev pub remaining : ProcessId → ProcessState → List Todo → Config → Config
+remaining p q rest c = with_state p (record q { rest = rest }) c
+
+-- the process waits until a moment
+abbrev pub waiting_until : ProcessId → ProcessState → ℕ → Config → Config
+waiting_until p q t c =
+    record (with_state p (record q { latest = Waiting Moment }) c) {
+      running = None;
+      future = c.future ++ record { time = t; region = front_of q.side; due = Resume p } ∷ [];
+    }
+
+-- the process waits for its turn in the slot
+abbrev pub turned : ProcessId → ProcessState → Config → Config
+turned p q c =
+    record (with_state p (record q { latest = Waiting Turn_in_slot }) c) {
+      running = None;
+      regions = ready_in (idle_of q.side) p c.regions;
+    }
+
+-- the process waits for one of these changes
+abbrev pub watching : ProcessId → ProcessState → List Watch → Config → Config
+watching p q ws c = record (with_state p (record q { latest = Waiting (Watches ws None) }) c) { running = None }
+
+-- the process is over
+abbrev pub over : ProcessId → ProcessState → Config → Config
+over p q c = record (with_state p (record q { latest = Process.Ended; rest = [] }) c) { running = None }
+
+-- the end of a body, by what the process comes from: it is over, begins again, or waits for a change of what it watches
+abbrev pub at_end_of : Parts → Process → ProcessKind → ProcessId → ProcessState → Config → Config
+at_end_of d f kind.Initial p q c = over p q c
+at_end_of d f kind.Always p q c = remaining p q (body_in d f.body None) c
+at_end_of d f kind.AlwaysFf p q c = remaining p q (body_in d f.body None) c
+at_end_of d f k p q c = watching p (record q { rest = body_in d f.body None }) f.watched c
+
+-- ---- a change
+
+-- the values are these
+abbrev pub with_store : Store → Config → Config
+with_store s c = record c { world = record c.world { store = s } }
+
+-- the values are these, and those whom the change wakes are ready
+abbrev pub changed_to : Parts → Store → Config → Config
+changed_to d s c = all_made_ready (woken d Changed c (with_store s c)) (with_store s c)
+
+-- the values after a write
+abbrev pub store_after : Spot → Val → Store → Store
+store_after (Cell o i r) x s = changed_at s o.0 (stored_over i r x)
+store_after _ x s = s
+
+-- ---- texts
+
+-- a record more
+abbrev pub recorded : ProcessState → List ℕ → Config → Config
+recorded q t c = record c { records = c.records ++ record { side = q.side; text = t } ∷ [] }
+
+-- a text that is printed as the slot ends
+abbrev pub strobe_kept : Strobe → Config → Config
+strobe_kept s c = record c { strobes = c.strobes ++ s ∷ [] }
+
+-- ---- a process is taken
+
+-- a process that is taken, before any `always_comb` starts
+abbrev pub taken_short : ℕ → ProcessId → Config → Config
+taken_short place p c =
+    with_process p (λ q. record q { latest = Running; was_taken = true })
+    (record c { running = Some p; regions = with_set (acting c) (record (front c) { ready = remove (front c).ready place }) c.regions })
+
+-- the configuration in which it is not ready any more
+abbrev pub taken_off : ℕ → Config → Config
+taken_off place c = record c { regions = with_set (acting c) (record (front c) { ready = remove (front c).ready place }) c.regions }
+
+-- whether it is the last starter
+abbrev pub is_last : Parts → ℕ → ProcessId → Config → Bool
+is_last d place p c = is_starter d (taken_off place c) p && (length (waiting_starters d (taken_short place p c)) == 0)

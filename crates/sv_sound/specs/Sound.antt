@@ -1,0 +1,177 @@
+-- What each configuration that a run of a built design comes to keeps (own).
+use Rattle.std.specs.Prelude.{ℕ, ◌≡◌, ◌+◌, ◌≤◌, Bool, true, false, not, ◌&&◌, ◌||◌, List, [], ◌∷◌, Option, None, Some, sum_by, if◌then◌else◌}
+use Rattle.std.specs.List.{AllByRecursion}
+use Rattle.sv_value.specs.declared.number.ProcessId.{ProcessId}
+use Rattle.sv_value.specs.declared.schedule.Due.{Due}
+use Rattle.sv_value.specs.declared.schedule.Due.TheVariants.{Resume, Work}
+use Rattle.sv_value.specs.declared.schedule.Event.{Event}
+use Rattle.sv_value.specs.declared.schedule.Job.{Job}
+use Rattle.sv_value.specs.declared.schedule.Job.TheVariants.{Update, Clock}
+use Rattle.sv_value.specs.declared.schedule.Region.{Region}
+use Rattle.sv_value.specs.declared.schedule.Region.TheVariants as region
+use Rattle.sv_value.specs.Regions.{Set, Regions, standing}
+use Rattle.sv_flat.specs.declared.process.Process.{Process}
+use Rattle.sv_flat.specs.declared.stmt.PrintKind.{PrintKind}
+use Rattle.sv_flat.specs.declared.stmt.PrintKind.TheVariants as print
+use Rattle.sv_flat.specs.declared.design.Parts.{Parts}
+use Rattle.sv_flat.specs.State.{World}
+use Rattle.sv_flat.specs.Process
+use Rattle.sv_flat.specs.Process.{ProcessState, Status, Waiting, Watches, Turn_in_slot, Start, Until, Todo, Do, Turn, Turns, Put, Spot, Cell, Effect, Remain, Write, Suspend, Resume_at, Update_at, Print_text, Keep_print, Finish_run, End, Fail}
+use Rattle.sv_flat.specs.Config.{Config, Clock as Clock_state, Monitor, numbered_from, starts, is_always_comb}
+use Rattle.sv_flat.specs.Opening.{empty_world}
+use Rattle.sv_built.specs.Built.{IsBuiltStmt, IsBuiltTarget}
+
+-- ---- how much the processes weigh that stand somewhere, by any weights
+
+-- the weight of what comes due
+abbrev pub weight_of_due : (ProcessId → ℕ) → Due → ℕ
+weight_of_due w (Resume p) = w p
+weight_of_due w (Work j) = 0
+
+-- the weight of what is scheduled
+abbrev pub weight_of_event : (ProcessId → ℕ) → Event → ℕ
+weight_of_event w e = weight_of_due w e.due
+
+-- the weight of the process that runs, if there is one
+abbrev pub weight_of_running : (ProcessId → ℕ) → Option ProcessId → ℕ
+weight_of_running w None = 0
+weight_of_running w (Some p) = w p
+
+-- the weight of those in the regions, in the future and running
+abbrev pub weight_in : (ProcessId → ℕ) → Regions → List Event → Option ProcessId → ℕ
+weight_in w r es o = sum_by w (standing r) + sum_by (weight_of_event w) es + weight_of_running w o
+
+-- a process that stands in none of these: it waits for a change, or for its start
+abbrev pub is_parked : Status → Bool
+is_parked (Waiting (Watches ws scope)) = true
+is_parked (Waiting Start) = true
+is_parked s = false
+
+-- the weight of such processes, from a number on
+abbrev pub parked_weight : (ProcessId → ℕ) → ℕ → List ProcessState → ℕ
+parked_weight w n [] = 0
+parked_weight w n (q ∷ qs) = (if is_parked q.latest then w (record { 0 = n }) else 0) + parked_weight w (n + 1) qs
+
+-- the weight in a configuration
+abbrev pub weight : (ProcessId → ℕ) → Config → ℕ
+weight w c = weight_in w c.regions c.future c.running + parked_weight w 0 c.processes
+
+-- the weight of all processes of a design
+abbrev pub weight_of_all : (ProcessId → ℕ) → Parts → ℕ
+weight_of_all w d = sum_by w (numbered_from 0 d.processes)
+
+-- ---- jobs, regions and the future
+
+-- a job is an update
+abbrev pub IsPlainJob : Job → Type 0
+IsPlainJob (Update us) = Unit {0}
+IsPlainJob (Clock k) = ⊥
+
+-- a process resumes in a front, and a job comes where updates stand
+abbrev pub IsDue : Region → Due → Type 0
+IsDue region.Active (Resume p) = Unit {0}
+IsDue region.Reactive (Resume p) = Unit {0}
+IsDue region.Nba (Work j) = IsPlainJob j
+IsDue region.ReNba (Work j) = IsPlainJob j
+IsDue _ _ = ⊥
+
+-- what is scheduled comes where it may
+pub record IsPlainEvent (e : Event) : Type 0 where
+  pub due : IsDue e.region e.due
+
+-- the jobs of a side are updates
+pub record IsPlainSet (s : Set) : Type 0 where
+  pub jobs : AllByRecursion IsPlainJob s.jobs
+  pub updates : AllByRecursion IsPlainJob s.updates
+  pub clocks : s.clocks ≡ []
+
+-- the jobs of both sides are
+pub record ArePlain (r : Regions) : Type 0 where
+  pub active : IsPlainSet r.active
+  pub reactive : IsPlainSet r.reactive
+
+-- ---- processes
+
+-- what is left to run is of statements that are built, outside all activations
+abbrev pub IsPlainTodo : Todo → Type 0
+IsPlainTodo (Do s cs outer hidden) = IsBuiltStmt s × (cs ≡ []) × (outer ≡ None) × (hidden ≡ None)
+IsPlainTodo (Turn s scope) = IsBuiltStmt s × (scope ≡ None)
+IsPlainTodo (Turns at n b scope) = scope ≡ None
+IsPlainTodo (Put at ts x scope) = AllByRecursion IsBuiltTarget ts × (scope ≡ None)
+IsPlainTodo _ = ⊥
+
+-- whether a starter was not taken yet
+abbrev pub is_pending : List Process → List ProcessState → Bool
+is_pending (f ∷ fs) (q ∷ qs) = (starts f && not q.was_taken) || is_pending fs qs
+is_pending _ _ = false
+
+-- how many starters were not taken yet
+abbrev pub pending_count : List Process → List ProcessState → ℕ
+pending_count (f ∷ fs) (q ∷ qs) = (if starts f && not q.was_taken then 1 else 0) + pending_count fs qs
+pending_count _ _ = 0
+
+-- the state of a process of the design; before all starters were taken, an `always_comb` waits for its start
+pub record IsStateOf (pending : Bool) (f : Process) (q : ProcessState) : Type 0 where
+  pub side : q.side ≡ f.side
+  pub program : q.program ≡ None
+  pub parent : q.parent ≡ None
+  pub rest : AllByRecursion IsPlainTodo q.rest
+  pub held : pending ≡ true → is_always_comb f.kind ≡ true → q.latest ≡ Waiting Start
+
+-- the processes are those of the design
+abbrev pub AreStates : Bool → List Process → List ProcessState → Type 0
+AreStates pending [] [] = Unit {0}
+AreStates pending (f ∷ fs) (q ∷ qs) = IsStateOf pending f q × AreStates pending fs qs
+AreStates pending _ _ = ⊥
+
+-- ---- configurations
+
+-- what each configuration of a run keeps, by the parts of a configuration that it speaks of
+pub record AreSound (d : Parts) (world : World) (clocks : List Clock_state) (monitor : Option Monitor) (regions : Regions) (future : List Event)
+    (processes : List ProcessState) (running : Option ProcessId) : Type 0 where
+  pub no_heap : world.heap ≡ empty_world.heap
+  pub no_activations : world.activations ≡ []
+  pub no_clocks : clocks ≡ []
+  pub no_monitor : monitor ≡ None
+  pub plain : ArePlain regions
+  pub each_event : AllByRecursion IsPlainEvent future
+  pub states : AreStates (is_pending d.processes processes) d.processes processes
+  -- whatever the weights, those that are ready, scheduled, running or parked weigh no more than all: each stands in one place at most
+  pub weights : (w : ProcessId → ℕ) → weight_in w regions future running + parked_weight w 0 processes ≤ weight_of_all w d
+
+-- what each configuration of a run keeps
+abbrev pub IsSound : Parts → Config → Type 0
+IsSound d c = AreSound d c.world c.clocks c.monitor c.regions c.future c.processes c.running
+
+-- ---- effects
+
+-- an element of an object, a driver of a net, or nothing
+abbrev pub IsPlainSpot : Spot → Type 0
+IsPlainSpot (Cell o i r) = Unit {0}
+IsPlainSpot Process.Nowhere = Unit {0}
+IsPlainSpot _ = ⊥
+
+-- that the others of the slot had their turn, or a change
+abbrev pub IsPlainUntil : Until → Type 0
+IsPlainUntil Turn_in_slot = Unit {0}
+IsPlainUntil (Watches ws scope) = scope ≡ None
+IsPlainUntil _ = ⊥
+
+-- all prints but `$monitor`
+abbrev pub IsPlainPrint : PrintKind → Type 0
+IsPlainPrint print.Monitor = ⊥
+IsPlainPrint _ = Unit {0}
+
+-- an effect that a step of a built design may have
+abbrev pub IsPlainEffect : Effect → Type 0
+IsPlainEffect (Remain rest) = AllByRecursion IsPlainTodo rest
+IsPlainEffect (Write s x) = IsPlainSpot s
+IsPlainEffect (Suspend u) = IsPlainUntil u
+IsPlainEffect (Resume_at t) = Unit {0}
+IsPlainEffect (Update_at t j) = IsPlainJob j
+IsPlainEffect (Print_text t) = Unit {0}
+IsPlainEffect (Keep_print k ps es) = IsPlainPrint k
+IsPlainEffect Finish_run = Unit {0}
+IsPlainEffect End = Unit {0}
+IsPlainEffect (Fail k) = Unit {0}
+IsPlainEffect _ = ⊥
