@@ -52,7 +52,11 @@ pub fn for_names<'a>(
     add_items(of, &mut names)?;
     names.push(Entry {
         name,
-        what: Declared::Variable(Storage::Activation, of, dimension),
+        what: Declared::Variable {
+            held: Storage::Activation,
+            ty: of,
+            dimension,
+        },
     })?;
     add_blocks(body, &mut names)?;
     Ok(names)

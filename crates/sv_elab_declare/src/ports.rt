@@ -46,7 +46,11 @@ fn add_port<'a>(one: &'a Port, ty: PortType<'a>, names: &mut Seq<Entry<'a>>) -> 
     }
     names.push(Entry {
         name: &one.name,
-        what: Declared::Port(ty.is_input, ty.is_wire, ty.ty),
+        what: Declared::Port {
+            is_input: ty.is_input,
+            is_wire: ty.is_wire,
+            ty: ty.ty,
+        },
     })
 }
 

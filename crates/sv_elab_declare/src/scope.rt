@@ -20,7 +20,7 @@ fn is_in_activation(of: &Declared) -> bool
     ensures { result ≡ scopes.is_in_activation (declared_in of.now) }
 {
     match of {
-        Declared::Variable(held, _, _) => matches!(held, Storage::Activation),
+        Declared::Variable { held, .. } => matches!(held, Storage::Activation),
         Declared::Argument(_, is_automatic) => *is_automatic,
         Declared::Given(_) => true,
         Declared::ObjectOf(_) => true,

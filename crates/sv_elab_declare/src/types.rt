@@ -27,7 +27,11 @@ fn add_enum_items<'a>(
         }
         names.push(Entry {
             name: &item.name,
-            what: Declared::Item(ty, start, steps),
+            what: Declared::Item {
+                ty,
+                value: start,
+                steps,
+            },
         })?;
         let Some(next) = steps.checked_add(1) else {
             return Err(NoMemory::Memory);

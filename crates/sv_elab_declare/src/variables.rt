@@ -33,7 +33,11 @@ fn add_declarator<'a>(
 {
     names.push(Entry {
         name: &one.name,
-        what: Declared::Variable(held, of, &one.dimension),
+        what: Declared::Variable {
+            held,
+            ty: of,
+            dimension: &one.dimension,
+        },
     })?;
     add_dimension_items(&one.dimension, names)
 }

@@ -24,7 +24,7 @@ fn is_no_item(entry: &Entry) -> bool
     ensures { result ≡ items.is_no_item (entry_in entry.now) }
 {
     match &entry.what {
-        Declared::Item(_, _, _) => false,
+        Declared::Item { .. } => false,
         _ => true,
     }
 }

@@ -27,8 +27,17 @@ use sv_value::{Place, Seq};
 pub enum Before<'a> {
     /// Nothing.
     Nothing,
-    /// What a constructor of this class does first: the items of the class, the place of its name, and how it begins.
-    Construction(&'a ClassInfo, &'a [ClassItem], Place, Opening<'a>),
+    /// What a constructor does first.
+    Construction {
+        /// Its class.
+        class: &'a ClassInfo,
+        /// The items of the class.
+        items: &'a [ClassItem],
+        /// The place of its name.
+        at: Place,
+        /// How it begins.
+        opening: Opening<'a>,
+    },
 }
 
 /// The initializers of properties, in a scope that knows the object alone.
@@ -103,8 +112,11 @@ pub fn before_made(
 {
     match before {
         Before::Nothing => nothing(alloc),
-        Before::Construction(class, items, at, opening) => {
-            constructor_before(alloc, around, inner, class, items, at, opening)
-        }
+        Before::Construction {
+            class,
+            items,
+            at,
+            opening,
+        } => { constructor_before(alloc, around, inner, class, items, at, opening) }
     }
 }

@@ -50,7 +50,12 @@ fn written_constructor(
     };
     let list = of.routine.stmts.as_slice();
     let at = of.routine.head.name.at;
-    let before = Before::Construction(class, items, at, opening_of(list));
+    let before = Before::Construction {
+        class,
+        items,
+        at,
+        opening: opening_of(list),
+    };
     let rest = after_opening(list);
     subroutine_made(
         alloc, around, path, &routine, before, rest, routines, objects,

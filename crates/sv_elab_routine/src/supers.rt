@@ -34,8 +34,15 @@ use sv_value::{Place, Seq, Text};
 /// How a constructor begins.
 #[derive(Clone, Copy)]
 pub enum Opening<'a> {
-    /// With `super.new`: the place of the statement, that of `super`, and what is passed.
-    Super(Place, Place, &'a Actuals),
+    /// With `super.new`.
+    Super {
+        /// The place of the statement.
+        written: Place,
+        /// The place of `super`.
+        place: Place,
+        /// What is passed.
+        actuals: &'a Actuals,
+    },
     /// With anything else.
     NoSuper,
 }
@@ -45,7 +52,11 @@ fn called_opening<'a>(first: &'a TreeStmt, e: &'a Expr) -> Opening<'a>
     ensures { words.opening_in result ≡ words.called_opening (parts.place_of first.now) (tree_view.expr e.now) }
 {
     match e {
-        Expr::SuperNew { at, actuals, .. } => Opening::Super(place(first), *at, actuals),
+        Expr::SuperNew { at, actuals, .. } => Opening::Super {
+            written: place(first),
+            place: *at,
+            actuals,
+        },
         Expr::Post(_, _) | Expr::System(_, _) => Opening::NoSuper,
         Expr::Number(_, _) | Expr::Time(_, _) | Expr::Text(_, _) | Expr::Null(_) => {
             Opening::NoSuper
@@ -86,7 +97,7 @@ pub fn after_opening(list: &[TreeStmt]) -> &[TreeStmt]
     match list {
         [] => list,
         [first, rest @ ..] => match opening_at(first) {
-            Opening::Super(_, _, _) => rest,
+            Opening::Super { .. } => rest,
             Opening::NoSuper => list,
         },
     }
@@ -344,9 +355,11 @@ pub fn super_of(
         (subroutines.super_of class.now at (words.opening_in opening.entry) (around_in around.now)) }
 {
     match opening {
-        Opening::Super(written, place, actuals) => {
-            written_super(alloc, around, class, written, place, actuals)
-        }
+        Opening::Super {
+            written,
+            place,
+            actuals,
+        } => { written_super(alloc, around, class, written, place, actuals) }
         Opening::NoSuper => implied_super(alloc, around, class, at),
     }
 }

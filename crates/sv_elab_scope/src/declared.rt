@@ -57,21 +57,34 @@ pub struct DeclaredPure<'a> {
 #[derive(Drop)]
 pub enum Declared<'a> {
     /// A variable whose type is written.
-    Variable(Storage<'a>, &'a WrittenType, &'a Option<Dimension>),
+    Variable {
+        held: Storage<'a>,
+        ty: &'a WrittenType,
+        dimension: &'a Option<Dimension>,
+    },
     /// An argument of a subroutine, and whether it is automatic (13.5).
     Argument(&'a ImpliedType, bool),
     /// A variable of an activation whose type is not written.
     Given(&'a Checked<Ty>),
     /// A net (6.7).
     Net(Sign, &'a Option<Range>),
-    /// A port: whether it is an input, and whether a net type is written (23.2.2).
-    Port(bool, bool, &'a ImpliedType),
+    /// A port (23.2.2).
+    Port {
+        is_input: bool,
+        /// Whether a net type is written.
+        is_wire: bool,
+        ty: &'a ImpliedType,
+    },
     /// A parameter (6.20).
     Parameter(&'a ImpliedType, Source<'a>),
     /// A type (6.18).
     Type(&'a WrittenType),
-    /// An item of an enum: so many after the one with this value, or after 0 (6.19).
-    Item(&'a WrittenType, Option<&'a Expr>, usize),
+    /// An item of an enum: so many steps after the one with this value, or after 0 (6.19).
+    Item {
+        ty: &'a WrittenType,
+        value: Option<&'a Expr>,
+        steps: usize,
+    },
     /// A class, in the scope with this path (8.3).
     Class(&'a [Text], &'a Name),
     /// `typedef class` (8.27).
@@ -104,7 +117,7 @@ impl Declared<'_> {
     {
         match self {
             Declared::Parameter(_, _) => Kind::Parameter,
-            Declared::Item(ty, _, _) => Kind::Item(place_of_type(ty)),
+            Declared::Item { ty, .. } => Kind::Item(place_of_type(ty)),
             Declared::Type(_) => Kind::TypeName,
             Declared::Class(_, _) => Kind::TypeName,
             Declared::Announcement => Kind::TypeName,

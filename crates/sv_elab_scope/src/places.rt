@@ -96,8 +96,11 @@ pub fn constant_place(entry: &Entry) -> Option<Place>
 {
     match &entry.what {
         Declared::Parameter(_, source) => Some(place_of_source(*source)),
-        Declared::Item(_, Some(value), _) => Some(place_of(value)),
-        Declared::Item(_, None, _) => Some(entry.name.at),
+        Declared::Item {
+            value: Some(value),
+            ..
+        } => Some(place_of(value)),
+        Declared::Item { value: None, .. } => Some(entry.name.at),
         _ => None,
     }
 }

@@ -317,7 +317,11 @@ pub fn value_of_entry(
 {
     let name = entry.name;
     match &entry.what {
-        Declared::Variable(held, ty, dimension) => {
+        Declared::Variable {
+            held,
+            ty,
+            dimension,
+        } => {
             let t = declared_type(alloc, around, path, ty, dimension);
             held_by(alloc, path, *held, name, t)
         }
@@ -336,7 +340,11 @@ pub fn value_of_entry(
             );
             net(alloc, path, name, t)
         }
-        Declared::Port(is_input, is_wire, ty) => {
+        Declared::Port {
+            is_input,
+            is_wire,
+            ty,
+        } => {
             let t = implied(alloc, around, path, ty);
             port(alloc, path, name, *is_input, *is_wire, is_written(ty), t)
         }
@@ -344,7 +352,7 @@ pub fn value_of_entry(
             parameter(parameter_value(alloc, around, path, ty, *source))
         }
         Declared::Type(ty) => type_name(type_of(alloc, around, path, ty)),
-        Declared::Item(ty, value, steps) => {
+        Declared::Item { ty, value, steps } => {
             item(item_value(alloc, around, path, name, ty, *value, *steps))
         }
         Declared::Class(path, name) => {

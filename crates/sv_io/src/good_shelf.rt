@@ -67,7 +67,8 @@ impl Shelf for GoodShelf {
         ensures bytes { IfOk result (λ text. text.items ≡ bytes_or_none self.old.files name.now) }
         ensures within { IfOk result (λ text. length text.items ≤ limit) }
         ensures long { IsErrOf result Fetch.Long → limit < length (bytes_or_none self.old.files name.now) }
-        ensures taken { result ≢ Err Fetch.Memory → self.new ≡ record self.old { taken = min (limit + 1) (length (bytes_or_none self.old.files name.now)) } }
+        ensures taken { result ≢ Err Fetch.Memory
+            → self.new ≡ record self.old { taken = min (limit + 1) (length (bytes_or_none self.old.files name.now)) } }
         ensures memory { IsErrOf result Fetch.Memory → self.new ≡ record self.old { taken = 0 } }
     {
         let bytes = found(&self.files, name).unwrap_or(&[]);

@@ -56,7 +56,8 @@ pub fn expect_word<'a, W: Word>(tokens: &'a [Token]) -> Read<'a, (&'a Token, W)>
 
 /// A word of this class where one comes next, else this one; and the tokens after it.
 pub fn word_or<W: Word>(tokens: &[Token], unwritten: W) -> (W, &[Token])
-    ensures { reads 0 (forms.otherwise unwritten (Map (λ t. chosen W.otherwise W.table t.code) (forms.word W.table))) (toks tokens.now) ≡ Ok (result.0, toks result.1.now) }
+    ensures { reads 0 (forms.otherwise unwritten (Map (λ t. chosen W.otherwise W.table t.code) (forms.word W.table))) (toks tokens.now)
+        ≡ Ok (result.0, toks result.1.now) }
 {
     let [first, rest @ ..] = tokens else {
         return (unwritten, tokens);
@@ -69,7 +70,8 @@ pub fn word_or<W: Word>(tokens: &[Token], unwritten: W) -> (W, &[Token])
 
 /// A word of this class where one comes next, and the tokens after it.
 pub fn maybe_word<W: Word>(tokens: &[Token]) -> (Option<W>, &[Token])
-    ensures { reads 0 (forms.optional (Map (λ t. chosen W.otherwise W.table t.code) (forms.word W.table))) (toks tokens.now) ≡ Ok (result.0, toks result.1.now) }
+    ensures { reads 0 (forms.optional (Map (λ t. chosen W.otherwise W.table t.code) (forms.word W.table))) (toks tokens.now)
+        ≡ Ok (result.0, toks result.1.now) }
 {
     let [first, rest @ ..] = tokens else {
         return (None, tokens);

@@ -29,7 +29,8 @@ pub fn expr(
     requires place { from ≤ length tokens.now }
     requires depth { depth ≤ most_depth }
     ensures told { Tells view.expr (texts_of grammar.expr) (most_depth - depth) (toks tokens.now) from result }
-    ensures only { (e : tree.Expr) (end : ℕ) → ReadsTo (texts_of grammar.expr) (most_depth - depth) (toks tokens.now) from e end → Answers view.expr e end result }
+    ensures only { (e : tree.Expr) (end : ℕ) → ReadsTo (texts_of grammar.expr) (most_depth - depth) (toks tokens.now) from e end
+        → Answers view.expr e end result }
 {
     match value(alloc, &tokens[from..], Budget::at(depth)) {
         Ok((tree, rest)) => Ok((tree, tokens.len() - rest.len())),

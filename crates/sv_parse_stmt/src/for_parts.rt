@@ -66,7 +66,8 @@ fn for_step_rest<'a>(
     tokens: &'a [Token],
     budget: Budget,
 ) -> Read<'a, ForStep>
-    ensures { Gives (λ x. (view.for_step x.0, toks x.1.now)) result (applied at (applied (view.lval target) (reads budget grammar.for_step_rest (toks tokens.now)))) }
+    ensures { Gives (λ x. (view.for_step x.0, toks x.1.now)) result
+        (applied at (applied (view.lval target) (reads budget grammar.for_step_rest (toks tokens.now)))) }
 {
     if is_next(tokens, Kind::Equals) {
         let (value, rest) = read!(Values::read(alloc, tokens, budget));

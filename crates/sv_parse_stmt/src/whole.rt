@@ -29,7 +29,8 @@ pub fn stmt(
     requires place { from ≤ length tokens.now }
     requires depth { depth < most_depth }
     ensures told { Tells view.stmt (texts_of statement) (most_depth - depth) (toks tokens.now) from result }
-    ensures only { (s : tree.Stmt) (end : ℕ) → ReadsTo (texts_of statement) (most_depth - depth) (toks tokens.now) from s end → Answers view.stmt s end result }
+    ensures only { (s : tree.Stmt) (end : ℕ) → ReadsTo (texts_of statement) (most_depth - depth) (toks tokens.now) from s end
+        → Answers view.stmt s end result }
 {
     match statement(alloc, &tokens[from..], Budget::at(depth)) {
         Ok((tree, rest)) => Ok((tree, tokens.len() - rest.len())),

@@ -242,7 +242,8 @@ pub fn run_nonblocking_after<V: Values>(
     requires { out.old.items ≡ [] }
     ensures does { Does design.now result frames.new out.new.items (value_in delay.now (V.view values.now) (λ n.
         value_in expr.now (V.view values.now) (λ x. from_result (defined.spots_of targets.now (V.view values.now))
-        (updates (V.view values.now) (drop 1 (todos_of design.now frames.old)) targets.now x (delays.ticks_of in_ticks (eval.vector_in n) (V.view values.now)))))) }
+        (updates (V.view values.now) (drop 1 (todos_of design.now frames.old)) targets.now x
+        (delays.ticks_of in_ticks (eval.vector_in n) (V.view values.now)))))) }
     ensures kept { IsKept result frames.old frames.new }
 {
     let n = value(alloc, values, delay)?;

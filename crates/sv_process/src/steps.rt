@@ -470,7 +470,8 @@ fn run<V: Values>(
 
 /// What came of it; a fault is the only effect of the step that meets it.
 fn went_of(out: &mut Vec<Effect>, ran: Result<Went, Stopped>) -> Result<Went, NoMemory>
-    ensures does { IfOk result (λ w. (d : Parts) (fs : List Frame) (all : Effects) → Runs d ran fs out.old.items all → all ≡ effects_of d w fs out.new.items) }
+    ensures does { IfOk result (λ w. (d : Parts) (fs : List Frame) (all : Effects)
+        → Runs d ran fs out.old.items all → all ≡ effects_of d w fs out.new.items) }
     ensures kept { IfOk result (λ w. (old : List Frame) (new : List Frame) → RunsKept ran old new → w ≡ Held → new ≡ old) }
 {
     match ran {
