@@ -1,7 +1,7 @@
 #!/usr/bin/env python3
-"""Measures how fast real modules run, beside Icarus Verilog's vvp where it is installed.
+"""Measures how fast real modules run, beside Icarus Verilog's vvp and the programs that Verilator makes, where these are installed.
 
-    tools/measure_speed.py [RUNS]
+    tools/measure_speed.py [RUNS [NAME..]]
 
 - counter: a counter of 32 bits;
 - shifter: a shift register of 1,000 flops, each an instance;
@@ -12,14 +12,14 @@
 - records: a record each tick;
 - cells: 10,000 instances of a flop behind gates.
 
-Prints the processor seconds of the best of RUNS calls (5 where no number is given), and the greatest memory of these calls. Each size is twice the
-one before. It is no part of the gate.
+Prints the processor seconds of the best of RUNS calls (5 where no number is given), and the greatest memory of these calls, of all designs or of those that
+are named. Each size is twice the one before. What Verilator takes to make a program is not counted. It is no part of the gate.
 """
 import sys
 import tempfile
 from pathlib import Path
 
-from measuring import PROGRAM, Best, build, vvp
+from measuring import PROGRAM, Best, build, verilated, vvp
 
 STEPS = 2 ** 40
 CLOCK = '  logic clk = 0;\n  always #1 clk = ~clk;\n'
@@ -81,11 +81,13 @@ def main():
     with tempfile.TemporaryDirectory() as name:
         source, log = Path(name, 'design.sv'), Path(name, 'log')
         for design, size in MEASURED:
+            if sys.argv[2:] and design.__name__ not in sys.argv[2:]:
+                continue
             for ticks in (size, 2 * size):
                 source.write_text(design(ticks))
                 print(f'{design.__name__} {ticks:,}: svsim {Best([PROGRAM, "run", source, "--steps", str(STEPS)], runs, log)}', end='')
-                theirs = vvp(source, runs, log)
-                print(f', vvp {theirs}' if theirs else '', flush=True)
+                theirs, made = vvp(source, runs, log), verilated(source, runs, log)
+                print(f', vvp {theirs}' if theirs else '', f'; verilator {made}' if made else '', sep='', flush=True)
 
 
 main()

@@ -38,3 +38,15 @@ def vvp(source, runs, log):
     program = Path(log).with_suffix('.vvp')
     subprocess.run(['iverilog', '-g2012', '-o', program, source], check=True)
     return Best(['vvp', '-n', program], runs, log)
+
+
+def verilated(source, runs, log):
+    """The same of the program that Verilator makes of the file, without the time of making it; none where it is not installed or makes none."""
+    if not shutil.which('verilator'):
+        return None
+    folder = Path(log).with_suffix('.obj')
+    shutil.rmtree(folder, ignore_errors=True)
+    words = ['verilator', '--binary', '--timing', '-Wno-fatal', '-Wno-lint', '-j', '0', '--top-module', 'bench', '--Mdir', folder, '-o', 'design', source]
+    if subprocess.run(words, stdout=subprocess.DEVNULL, stderr=subprocess.DEVNULL).returncode:
+        return None
+    return Best([folder / 'design'], runs, log)
