@@ -1,5 +1,5 @@
 -- The numbers over the lists of paths.
-use Rattle.std.proofs.Common.{rules, map}
+use Rattle.std.proofs.Common.{rules, map, ◌∙◌}
 use Rattle.sv_elab_design.proofs.NumberLaws.{numbers_are}
 use Rattle.sv_elab_design.proofs.numbering.numbers_of.Goals as goal
 
@@ -14,5 +14,5 @@ returns c =
       clockings = c.in_ok-new-4.field-0;
       programs = c.in_ok-new-5.field-0;
     }
-    (map (λ k. k.now) c.args.classes.now) c.args.programs c.args.so_far (search rules) (search rules) (search rules) (search rules) (search rules)
-    (search rules)
+    (map (λ k. k.now) c.args.classes.now) c.args.programs c.args.so_far (c.in_ok-new.ensures ∙ c.in_ok-objects.ensures) c.in_ok-new-2.ensures
+    (search rules) c.in_ok-new-3.ensures c.in_ok-new-4.ensures c.in_ok-new-5.ensures
