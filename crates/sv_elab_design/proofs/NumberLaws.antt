@@ -7,7 +7,7 @@ use Rattle.sv_flat.specs.declared.design.Instance.{Instance}
 use Rattle.sv_flat.specs.declared.object.Object.{Object}
 use Rattle.sv_names.specs.declared.around.ClassInfo.{ClassInfo}
 use Rattle.sv_names.specs.declared.numbers.Numbers.{Numbers}
-use Rattle.sv_names.specs.Design.{derived_ids, numbers_of, program_paths, all_parts}
+use Rattle.sv_names.specs.Design.{no_numbers, derived_ids, numbers_of, program_paths, all_parts}
 use Rattle.sv_names.specs.Items.{GivenParts}
 use Rattle.sv_names.specs.Named.{in_line, line_of, is_derived}
 use Rattle.sv_names.specs.Types.{Path, same_path, position_of}
@@ -29,6 +29,19 @@ derived_are n ks p (q ∷ qs) =
     let rest : List ClassId = derived_in (suc n) p (map (line_paths ks) qs) in
     ap (λ b. if b then record { 0 = n } ∷ rest else rest) (stands_are p (line_of ks q))
     ∙ ap (λ (l : List ClassId). if is_derived ks q p then record { 0 = n } ∷ l else l) (derived_are (suc n) ks p qs)
+
+-- over empty lists no part has a number
+pub none_are : (n : Numbers) → n.objects ≡ [] → n.classes ≡ [] → n.lines ≡ [] → n.subroutines ≡ [] → n.clockings ≡ [] → n.programs ≡ []
+    → numbers_in n ≡ no_numbers
+none_are n objects classes lines subroutines clockings programs = λ i.
+    record {
+      object = λ p. record { 0 = position_of 0 p (objects i) };
+      class = λ p. record { 0 = position_of 0 p (classes i) };
+      derived = λ p. derived_in 0 p (lines i);
+      subroutine = λ p. record { 0 = position_of 0 p (subroutines i) };
+      clocking = λ p. record { 0 = position_of 0 p (clockings i) };
+      program = λ p. min (position_of 0 p (programs i)) (2 ^ 32 - 1);
+    }
 
 -- the numbers of the code are those of the definition
 pub numbers_are : (n : Numbers) (ks : List ClassInfo) (ps : List Path) (x : SoFar)
