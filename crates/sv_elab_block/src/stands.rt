@@ -19,8 +19,8 @@ use sv_tree::{Decl, Dimension, Name, Stmt, WrittenType};
 fn scope_stands(alloc: Global, scope: &Scope, names: &[Entry]) -> Result<(), Refusal>
     ensures { Gives result (blocks.scope_stands scope.now (map entry_in names.now)) }
 {
-    let once = answer(twice(5, names));
-    where_also(once, known_stand(alloc, scope.known.as_slice()))
+    let differ = twice(alloc, 5, names)?;
+    where_also(answer(differ), known_stand(alloc, scope.known.as_slice()))
 }
 
 /// E5: a block or a fork declares a name twice; or what its declarations break.

@@ -1,3 +1,4 @@
+mod BlockLaws
 mod CheckedLaws
 mod CommonLaws
 mod DefaultLaws

@@ -23,8 +23,8 @@ fn block_path<'a>(group: &'a Group, name: &[u8]) -> Option<&'a [Text]>
     }
 }
 
-/// The default clocking of a unit with these items.
-pub fn default_in<'a>(group: &'a Group, all: &[Item]) -> Option<&'a [Text]>
+/// The default clocking of a unit with these items, as far as they are looked through.
+fn default_among<'a>(group: &'a Group, all: &[Item]) -> Option<&'a [Text]>
     ensures { option_map (λ p. p.now) result ≡ items.default_in (group_in group.now) (map item_in all.now) }
 {
     let mut left = all;
@@ -40,6 +40,18 @@ pub fn default_in<'a>(group: &'a Group, all: &[Item]) -> Option<&'a [Text]>
         left = rest;
     }
     None
+}
+
+/// The default clocking of a unit with these items. Where the unit declares no clocking block, they are not looked through.
+#[tactic(auto, using(crate::proofs::BlockLaws::no_default))]
+pub fn default_in<'a>(group: &'a Group, all: &[Item]) -> Option<&'a [Text]>
+    ensures { option_map (λ p. p.now) result ≡ items.default_in (group_in group.now) (map item_in all.now) }
+{
+    if group.scope.known.has_block() {
+        default_among(group, all)
+    } else {
+        None
+    }
 }
 
 /// Where an item makes a default clocking.

@@ -58,17 +58,16 @@ fn units_differ(alloc: Global, units: &[Description]) -> Result<(), Refusal>
     let mut entries = Seq::new(alloc);
     add_files(alloc, units, &mut entries)?;
     let kept = without_items(alloc, entries)?;
-    answer(twice(1, kept.as_slice()))
+    let differ = twice(alloc, 1, kept.as_slice())?;
+    answer(differ)
 }
 
 /// E5, E58: an item of an enum has the name of another declaration; a class that is announced is not declared.
-fn names_stand(entries: &[Entry]) -> Result<(), Refusal>
+fn names_stand(alloc: Global, entries: &[Entry]) -> Result<(), Refusal>
     ensures { Gives result (words.names_stand (map entry_in entries.now)) }
 {
-    where_also(
-        answer(twice(5, entries)),
-        answer(announcements_stand(entries)),
-    )
+    let differ = twice(alloc, 5, entries)?;
+    where_also(answer(differ), answer(announcements_stand(entries)))
 }
 
 /// E6, E33: the bases of classes outside units.
@@ -87,7 +86,7 @@ fn files_stand(alloc: Global, units: &[Description]) -> Result<(), Refusal>
     let differ = units_differ(alloc, units);
     let mut entries = Seq::new(alloc);
     add_files(alloc, units, &mut entries)?;
-    let names = names_stand(entries.as_slice());
+    let names = names_stand(alloc, entries.as_slice());
     let bases = file_bases(alloc, entries.as_slice(), units);
     where_also(where_also(differ, names), bases)
 }

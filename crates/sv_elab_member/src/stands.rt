@@ -51,7 +51,8 @@ fn names_stand(alloc: Global, class: &ClassInfo, of: &Class) -> Result<(), Refus
     let known = known_stand(alloc, class.scope.known.as_slice());
     let names = class_names(alloc, class.path.as_slice(), of)?;
     let names = names.as_slice();
-    let once = where_also(known, answer(twice(5, names)));
+    let differ = twice(alloc, 5, names)?;
+    let once = where_also(known, answer(differ));
     where_also(once, answer(announcements_stand(names)))
 }
 

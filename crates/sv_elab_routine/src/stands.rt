@@ -72,7 +72,8 @@ fn names_stand(alloc: Global, around: &Around, of: &DeclaredRoutine) -> Result<(
     let this = this_name(alloc, of.routine.head.name.at)?;
     let usual = around.is_automatic;
     let names = routine_names(alloc, usual, of.class, of.qualifiers, of.routine, &this)?;
-    answer(twice(5, names.as_slice()))
+    let differ = twice(alloc, 5, names.as_slice())?;
+    answer(differ)
 }
 
 /// E5: what the declarations and the end label of a subroutine break.
@@ -147,7 +148,8 @@ fn pure_names_stand(
 {
     let this = this_name(alloc, of.name.at)?;
     let names = pure_names(alloc, class, of, &this)?;
-    answer(twice(5, names.as_slice()))
+    let differ = twice(alloc, 5, names.as_slice())?;
+    answer(differ)
 }
 
 /// What the declarations of a pure method break, which has a head alone (8.21), in the class with this path.

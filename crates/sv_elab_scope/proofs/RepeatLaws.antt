@@ -1,15 +1,17 @@
 -- Names that are declared twice, from the first declaration on.
-use Rattle.std.proofs.Common.{◌≡◌, ℕ, ◌+◌, ◌<◌, Bool, true, false, not, ◌&&◌, ◌||◌, List, [], ◌∷◌, ◌++◌, length, get_or, take, drop, map, reverse, refl, ap, sym, ◌∙◌}
+use Rattle.std.proofs.Common.{◌≡◌, ℕ, ◌+◌, ◌<◌, Bool, true, false, not, ◌&&◌, ◌||◌, List, [], ◌∷◌, ◌++◌, length, get_or, take, drop, map, reverse, refl, ap, sym, ◌∙◌, true≢false}
 use Rattle.std.proofs.lemmas.List.{reverse-append, take_more, drop_more}
 use Rattle.sv_names.specs.declared.checked.Checked.{Checked}
 use Rattle.sv_names.specs.declared.checked.Checked.TheVariants.{Good, Broken}
 use Rattle.sv_names.specs.Types.{same_bytes}
 use Rattle.sv_names.specs.Checked.{rule, ◌where_also◌}
 use Rattle.sv_names.specs.Entries.{Sort, sort_of, agree, clashes, twice}
+use Rattle.sv_names.specs.Index.{has_name}
+use Rattle.sv_names.specs.declared.name_set.NameSet.{NameSet}
 use Rattle.sv_names.proofs.Joined.{next_guarded}
 use Rattle.sv_elab_scope.specs.declared.declared.Entry.{Entry}
 use Rattle.sv_elab_scope.specs.Views.{entry_in}
-use Rattle.sv_elab_scope.specs.Repeated.{seen_of, seen_in, of_rule}
+use Rattle.sv_elab_scope.specs.Repeated.{clash_of, seen_of, seen_in, is_named, HasNames, of_rule}
 
 -- ---- the order of what was seen does not matter
 
@@ -41,6 +43,39 @@ module _ (x : List ℕ) (s : Sort) where
 seen-append : (es : List Entry) (e : Entry) → seen_in (es ++ e ∷ []) ≡ seen_in es ++ seen_of e
 seen-append [] e = refl
 seen-append (d ∷ es) e = ap (λ more. (d.name.now.text, sort_of (entry_in d).what) ∷ more) (seen-append es e)
+
+-- ---- names that were seen
+
+or_swap : (a b c : Bool) → (a || (b || c)) ≡ (b || (a || c))
+or_swap true true c = refl
+or_swap true false c = refl
+or_swap false b c = refl
+
+named-last : (x : List ℕ) (es : List Entry) (e : Entry) → is_named x (es ++ e ∷ []) ≡ (same_bytes x e.name.now.text || is_named x es)
+named-last x [] e = refl
+named-last x (d ∷ es) e =
+    ap (λ (b : Bool). same_bytes x d.name.now.text || b) (named-last x es e)
+    ∙ or_swap (same_bytes x d.name.now.text) (same_bytes x e.name.now.text) (is_named x es)
+
+unnamed : (x : List ℕ) (s : Sort) (es : List Entry) → is_named x es ≡ false → clashes x s (seen_in es) ≡ false
+unnamed x s [] new = refl
+unnamed x s (e ∷ es) new = by (same_bytes x e.name.now.text) new (λ is. unnamed x s es is)
+  where
+    by : (b : Bool) → (b || is_named x es) ≡ false → (is_named x es ≡ false → clashes x s (seen_in es) ≡ false)
+        → ((b && not (agree (sort_of (entry_in e).what) s)) || clashes x s (seen_in es)) ≡ false
+    by true is more = absurd (true≢false is)
+    by false is more = more is
+
+-- a name that was not seen clashes with none
+pub new_name : (set : NameSet) (e : Entry) (es : List Entry) → HasNames set es → has_name set e.name.now.text ≡ false → clash_of e (seen_in es) ≡ false
+new_name set e es has new = unnamed e.name.now.text (sort_of (entry_in e).what) es (sym (has e.name.now.text) ∙ new)
+
+-- one more name was seen
+pub one_named : (set more : NameSet) (es : List Entry) (i : ℕ) (e : Entry) → i < length es → get_or es i e ≡ e → HasNames set (take i es)
+    → ((x : List ℕ) → has_name more x ≡ (same_bytes x e.name.now.text || has_name set x)) → HasNames more (take (i + 1) es)
+one_named set more es i e within is has added x =
+    added x ∙ ap (λ (b : Bool). same_bytes x e.name.now.text || b) (has x) ∙ sym (named-last x (take i es) e)
+    ∙ sym (ap (is_named x) (take_more es i e within ∙ ap (λ d. take i es ++ d ∷ []) is))
 
 -- ---- one declaration after another
 

@@ -1,6 +1,9 @@
 -- Names that are declared twice, in the order in which code goes through them.
-use Rattle.std.specs.Prelude.{ℕ, Bool, List, [], ◌∷◌}
+use Rattle.std.specs.Prelude.{◌≡◌, ℕ, Bool, false, ◌||◌, List, [], ◌∷◌}
 use Rattle.sv_names.specs.Entries as names
+use Rattle.sv_names.specs.Index.{has_name}
+use Rattle.sv_names.specs.Types.{same_bytes}
+use Rattle.sv_names.specs.declared.name_set.NameSet.{NameSet}
 use Rattle.sv_elab_scope.specs.declared.declared.Entry.{Entry}
 use Rattle.sv_elab_scope.specs.declared.repeated.Sort.{Sort}
 use Rattle.sv_elab_scope.specs.declared.repeated.Sort.TheVariants.{Announcement, Class, Other}
@@ -24,6 +27,15 @@ seen_of e = (e.name.now.text, names.sort_of (entry_in e).what) ∷ []
 abbrev pub seen_in : List Entry → List (List ℕ × names.Sort)
 seen_in [] = []
 seen_in (e ∷ es) = (e.name.now.text, names.sort_of (entry_in e).what) ∷ seen_in es
+
+-- whether one of them has a name
+abbrev pub is_named : List ℕ → List Entry → Bool
+is_named x [] = false
+is_named x (e ∷ es) = same_bytes x e.name.now.text || is_named x es
+
+-- a set has their names
+abbrev pub HasNames : NameSet → List Entry → Type 0
+HasNames s es = (x : List ℕ) → has_name s x ≡ is_named x es
 
 -- the rule that each declaration breaks
 abbrev pub of_rule : ℕ → names.Entry → ℕ

@@ -1,13 +1,14 @@
 // Names that a scope declares twice (IEEE 1800-2017, 8.27 and 23.9): E1, E5.
-ghost use Rattle.std.specs.Prelude.{◌≡◌, [], map};
+ghost use Rattle.std.specs.Prelude.{◌≡◌, [], IfOk, map};
 ghost use Rattle.sv_names.specs.Checked as rules;
 ghost use Rattle.sv_names.specs.Entries as names;
 ghost use Rattle.sv_elab_scope.specs.Views.{entry_in};
-ghost use Rattle.sv_elab_scope.specs.Repeated.{sort_in, clash_of, seen_of, seen_in, of_rule};
+ghost use Rattle.sv_elab_scope.specs.Repeated.{sort_in, clash_of, seen_of, seen_in, HasNames, of_rule};
 
 use crate::declared::{Declared, Entry};
-use sv_names::{Checked, Fault, and_guard, same_bytes};
-use sv_value::Place;
+use std::alloc::Global;
+use sv_names::{Checked, Fault, NameSet, and_guard, same_bytes};
+use sv_value::{NoMemory, Place};
 
 /// How a name clashes with another one.
 #[derive(Clone, Copy)]
@@ -77,14 +78,28 @@ fn rule(rule: u8, at: Place, is_broken: bool) -> Checked<()>
     }
 }
 
-/// A name that is declared twice: the rule, E5 or E1, at the second declaration.
-pub fn twice(number: u8, entries: &[Entry]) -> Checked<()>
-    ensures { result ≡ names.twice (of_rule number) [] (map entry_in entries.now) }
+/// Whether a declaration clashes with one of those before it, whose names are known.
+#[tactic(auto, using(crate::proofs::RepeatLaws::new_name))]
+fn clashes_again(seen: &NameSet, entry: &Entry, before: &[Entry]) -> bool
+    requires { HasNames seen.now before.now }
+    ensures { result ≡ clash_of entry.now (seen_in before.now) }
 {
+    if !seen.has(entry.name.text.bytes()) {
+        return false;
+    }
+    clashes(entry, before)
+}
+
+/// A name that is declared twice: the rule, E5 or E1, at the second declaration. Only a declaration whose name was seen is compared with those before it.
+pub fn twice(alloc: Global, number: u8, entries: &[Entry]) -> Result<Checked<()>, NoMemory>
+    ensures { IfOk result (λ c. c ≡ names.twice (of_rule number) [] (map entry_in entries.now)) }
+{
+    let mut seen = NameSet::new(alloc);
     let mut guards = Checked::Good(());
     for (position, entry) in entries.iter().enumerate() {
-        let is_broken = clashes(entry, &entries[..position]);
+        let is_broken = clashes_again(&seen, entry, &entries[..position]);
         guards = and_guard(guards, rule(number, entry.name.at, is_broken));
+        seen.add(alloc, entry.name.text.bytes())?;
     }
-    guards
+    Ok(guards)
 }

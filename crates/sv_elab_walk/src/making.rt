@@ -53,11 +53,12 @@ fn chain_of<'t>(
 }
 
 /// What the declarations of an instance break by their names.
-fn names_stand(names: &[Entry], heads: &[ClassHead]) -> Checked<()>
-    ensures { result ≡ instances.names_stand (map entry_in names.now) (map head_in heads.now) }
+fn names_stand(alloc: Global, names: &[Entry], heads: &[ClassHead]) -> Result<Checked<()>, NoMemory>
+    ensures { IfOk result (λ c. c ≡ instances.names_stand (map entry_in names.now) (map head_in heads.now)) }
 {
-    let guards = and_guard(twice(5, names), announcements_stand(names));
-    and_guard(guards, bases_stand(heads))
+    let differ = twice(alloc, 5, names)?;
+    let guards = and_guard(differ, announcements_stand(names));
+    Ok(and_guard(guards, bases_stand(heads)))
 }
 
 /// Whether an item declares a class.
@@ -157,7 +158,7 @@ fn body_of<'a>(
     let names = names_of(alloc, body, element, givens.as_slice())?;
     let items = element.items.as_slice();
     let heads = heads_in(alloc, units, path, names.as_slice(), items)?;
-    let stands = names_stand(names.as_slice(), heads.as_slice());
+    let stands = names_stand(alloc, names.as_slice(), heads.as_slice())?;
     let group = settled_unit(alloc, around, path, names, heads.as_slice())?;
     Ok(Body { group, stands })
 }

@@ -1,9 +1,9 @@
 -- The rules on two writers of one object, for one write and the others (IEEE 1800-2017, 6.5, 9.2.2 and 10.3).
-use Rattle.std.specs.Prelude.{ℕ, Bool, not, ◌&&◌, ◌||◌, List, ◌==◌}
+use Rattle.std.specs.Prelude.{ℕ, Bool, not, ◌&&◌, ◌||◌, List, [], ◌∷◌, ◌==◌, if◌then◌else◌}
 use Rattle.sv_names.specs.declared.checked.Checked.{Checked}
 use Rattle.sv_names.specs.Checked.{rule, place_before, all}
 use Rattle.sv_names.specs.Types.{Path, same_path}
-use Rattle.sv_names.specs.Writers.{Write, is_continuous, is_alone, same_continuous, comes_first, some}
+use Rattle.sv_names.specs.Writers.{Write, Writer, is_continuous, is_alone, same_continuous, comes_first, some}
 use Rattle.sv_elab_writers.specs.declared.clashes.Law.{Law}
 use Rattle.sv_elab_writers.specs.declared.clashes.Law.TheVariants as law
 
@@ -23,6 +23,15 @@ clashes_alone w v =
 abbrev pub clashes : Law → Write → Write → Bool
 clashes law.Continuous = clashes_continuous
 clashes law.Alone = clashes_alone
+
+-- whether a write of such a writer lets no other beside it; a clash needs one
+abbrev pub is_strict : Law → Writer → Bool
+is_strict law.Continuous = is_continuous
+is_strict law.Alone = is_alone
+
+-- a write, where it lets no other beside it
+abbrev pub strict_of : Law → Write → List Write
+strict_of l w = if is_strict l w.writer then w ∷ [] else []
 
 -- the number of its rule
 abbrev pub number_of : Law → ℕ

@@ -1,15 +1,16 @@
 // Two writers of one object (IEEE 1800-2017, 6.5, 9.2.2.2 and 10.3): E20, E22, E23.
-ghost use Rattle.std.specs.Prelude.{◌≡◌, List, map};
+ghost use Rattle.std.specs.Prelude.{◌≡◌, List, map, flat_map, IfOk, OnOk};
 ghost use Rattle.sv_names.specs.Checked as rules;
 ghost use Rattle.sv_names.specs.Checked.{all};
 ghost use Rattle.sv_names.specs.Writers as writers;
 ghost use Rattle.sv_elab_writers.specs.Laws as laws;
-ghost use Rattle.sv_elab_writers.specs.Views.{writer_in, write_in, initialized_in};
+ghost use Rattle.sv_elab_writers.specs.Views.{writer_in, write_in, initialized_in, Written};
 
 use crate::writes::Write;
 use crate::{Initialized, Writer};
+use std::alloc::Global;
 use sv_names::{Checked, Fault, and_guard, same_path, same_place};
-use sv_value::{Place, Text};
+use sv_value::{NoMemory, Place, Seq, Text};
 
 /// What two writes of one object may not be.
 #[derive(Clone, Copy)]
@@ -114,11 +115,63 @@ fn has_clash(law: Law, writes: &[Write], w: Write) -> bool
     false
 }
 
-/// The rule for one write.
-fn stands(law: Law, writes: &[Write], w: Write) -> Checked<()>
+/// Whether a write lets no other beside it.
+fn is_strict(law: Law, writer: Writer) -> bool
+    ensures { result ≡ laws.is_strict law (writer_in writer) }
+{
+    match law {
+        Law::Continuous => is_continuous(writer),
+        Law::Alone => is_alone(writer),
+    }
+}
+
+/// Appends a write, where it lets no other beside it.
+#[tactic(auto, using(crate::proofs::StrictLaws::kept, crate::proofs::StrictLaws::left_out))]
+fn add_strict<'a>(law: Law, write: Write<'a>, strict: &mut Seq<Write<'a>>) -> Result<(), NoMemory>
+    ensures { OnOk result (Written strict.old strict.new (laws.strict_of law (write_in write.entry))) }
+{
+    if is_strict(law, write.writer) {
+        return strict.push(write);
+    }
+    Ok(())
+}
+
+/// The writes that let no other beside them.
+#[tactic(auto, using(crate::proofs::WrittenLaws::turn_written))]
+fn strict_ones<'a>(
+    alloc: Global,
+    law: Law,
+    writes: &[Write<'a>],
+) -> Result<Seq<Write<'a>>, NoMemory>
+    ensures { IfOk result (λ ws. map write_in ws ≡ flat_map (laws.strict_of law) (map write_in writes.now)) }
+{
+    let mut strict = Seq::new(alloc);
+    let mut left = writes;
+    while let [one, rest @ ..] = left {
+        add_strict(law, *one, &mut strict)?;
+        left = rest;
+    }
+    Ok(strict)
+}
+
+/// Whether a write clashes with one of all. One that lets others beside it is compared with those alone that do not.
+#[tactic(auto, using(crate::proofs::StrictLaws::among_strict))]
+fn clashes_among(law: Law, writes: &[Write], strict: &[Write], w: Write) -> bool
+    requires { map write_in strict.now ≡ flat_map (laws.strict_of law) (map write_in writes.now) }
+    ensures { result ≡ writers.some (laws.clashes law (write_in w.entry)) (map write_in writes.now) }
+{
+    if is_strict(law, w.writer) {
+        return has_clash(law, writes, w);
+    }
+    has_clash(law, strict, w)
+}
+
+/// The rule for one write, over all writes and those that let no other beside them.
+fn stands(law: Law, writes: &[Write], strict: &[Write], w: Write) -> Checked<()>
+    requires { map write_in strict.now ≡ flat_map (laws.strict_of law) (map write_in writes.now) }
     ensures { result ≡ laws.stands law (map write_in writes.now) (write_in w.entry) }
 {
-    let is_broken = has_clash(law, writes, w);
+    let is_broken = clashes_among(law, writes, strict, w);
     match law {
         Law::Continuous => rule(20, w.at, is_broken),
         Law::Alone => rule(22, w.at, is_broken),
@@ -126,14 +179,15 @@ fn stands(law: Law, writes: &[Write], w: Write) -> Checked<()>
 }
 
 /// The rule for each write.
-pub(crate) fn all_stand(law: Law, writes: &[Write]) -> Checked<()>
-    ensures { result ≡ laws.all_stand law (map write_in writes.now) }
+pub(crate) fn all_stand(alloc: Global, law: Law, writes: &[Write]) -> Result<Checked<()>, NoMemory>
+    ensures { IfOk result (λ c. c ≡ laws.all_stand law (map write_in writes.now)) }
 {
+    let strict = strict_ones(alloc, law, writes)?;
     let mut guards = Checked::Good(());
     for w in writes {
-        guards = and_guard(guards, stands(law, writes, *w));
+        guards = and_guard(guards, stands(law, writes, strict.as_slice(), *w));
     }
-    guards
+    Ok(guards)
 }
 
 /// Whether an object is written continuously.

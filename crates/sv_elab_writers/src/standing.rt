@@ -150,16 +150,18 @@ fn all_written<'a>(
 
 /// The three rules.
 fn writers_agree(
+    alloc: Global,
     written: &[Write],
     by_procedures: &[Write],
     variables: &[Initialized],
-) -> Checked<()>
-    ensures { result ≡ writers.writers_agree (map write_in written.now) (map write_in by_procedures.now) (map initialized_in variables.now) }
+) -> Result<Checked<()>, NoMemory>
+    ensures { IfOk result (λ c. c ≡ writers.writers_agree (map write_in written.now) (map write_in by_procedures.now)
+        (map initialized_in variables.now)) }
 {
-    let continuous = all_stand(Law::Continuous, written);
-    let alone = all_stand(Law::Alone, by_procedures);
+    let continuous = all_stand(alloc, Law::Continuous, written)?;
+    let alone = all_stand(alloc, Law::Alone, by_procedures)?;
     let initialized = none_initialized(written, variables);
-    and_guard(and_guard(continuous, alone), initialized)
+    Ok(and_guard(and_guard(continuous, alone), initialized))
 }
 
 /// The rules on the writers of a design.
@@ -175,7 +177,12 @@ pub fn writers_stand(
 {
     let written = all_written(alloc, table, sources)?;
     let by_procedures = procedures_write(alloc, classes, table, sources)?;
-    let stands = writers_agree(written.as_slice(), by_procedures.as_slice(), variables);
+    let stands = writers_agree(
+        alloc,
+        written.as_slice(),
+        by_procedures.as_slice(),
+        variables,
+    )?;
     answer(stands)
 }
 

@@ -20,7 +20,7 @@ returns c =
     ap (map entry_in) c.as_slice-names.ensures ∙ c.in_ok-names.ensures ∙ ap (λ (p : Path). class_entries p o) c.as_slice-2.ensures in
     let known = subst (λ (ks : List Known). Gives c.known_stand-known.result (known_stand ks)) c.as_slice.ensures c.known_stand-known.ensures in
     let once =
-    subst (λ (x : Checked (Unit {0})). Gives c.answer.result x) (c.twice.ensures ∙ ap (λ (l : List Entry). twice (λ e. 5) [] l) names) c.answer.ensures in
+    subst (λ (x : Checked (Unit {0})). Gives c.answer.result x) (c.in_ok-differ.ensures ∙ ap (λ (l : List Entry). twice (λ e. 5) [] l) names) c.answer.ensures in
     let told =
     subst (λ (x : Checked (Unit {0})). Gives c.answer-2.result x) (c.announcements_stand.ensures ∙ ap announcements_stand names) c.answer-2.ensures in
     c.where_also.ensures _ _ (c.where_also-once.ensures _ _ known once) told

@@ -21,9 +21,9 @@ returns c =
     let u = design_element c.args.element.now in
     let es = map entry_in c.in_ok-names.names in
     body_made us ar p u (kept_in c.args.kept.now) es (map head_in c.in_ok-heads.heads) (group_in c.in_ok-group.group)
-    c.names_stand-stands.result
+    c.in_ok-stands.stands
     (c.in_ok-names.ensures refl ∙ ap (λ (gs : Givens). unit_entries p u gs) (ap givens_in c.as_slice.ensures ∙ c.in_ok-givens.ensures))
     (c.in_ok-heads.ensures
     ∙ (λ i. heads_of p (map entry_in (c.as_slice-2.ensures i)) (file_entries us) (map item (c.as_slice-items.ensures.value i))))
     (c.in_ok-group.ensures ∙ ap (λ (hs : List ClassHead). settled_group ar p es (map head_in hs)) c.as_slice-5.ensures)
-    (c.names_stand-stands.ensures ∙ (λ i. names_stand (map entry_in (c.as_slice-3.ensures i)) (map head_in (c.as_slice-4.ensures i))))
+    (c.in_ok-stands.ensures ∙ (λ i. names_stand (map entry_in (c.as_slice-3.ensures i)) (map head_in (c.as_slice-4.ensures i))))
