@@ -1,8 +1,9 @@
 -- What a stack stands for, by its last entry.
 use Rattle.std.proofs.Common.{ℕ, ◌≡◌, ◌+◌, ◌-◌, ◌<◌, zero, suc, List, [], ◌∷◌, ◌++◌, Option, None, Some, true, false, refl, ap, subst, sym, ◌∙◌, arith, length, drop, map, reverse, length-append, inl, inr}
-use Rattle.std.specs.Prelude.{slice_get, option_to_list, nat_lt, not, ◌==◌}
+use Rattle.std.specs.Prelude.{slice_get, slice_set, option_to_list, nat_lt, not, ◌==◌}
 use Rattle.std.proofs.lemmas.List.{append-nil, get_or_push, reverse-append, drop_more}
 use Rattle.std.proofs.lemmas.Bool.Decides.{nat_tests}
+use Rattle.std.proofs.Math.Seq.{set-append_seam}
 use Rattle.std.proofs.lemmas.Option.{slice_get-get_or, slice_get_cases}
 use Rattle.sv_flat.specs.declared.design.Parts.{Parts}
 use Rattle.sv_value.specs.declared.number.RoutineId.{RoutineId}
@@ -17,7 +18,6 @@ use Rattle.sv_built.specs.declared.position.Position.{Position}
 use Rattle.sv_built.specs.Positions.{body_of, stmt_at}
 use Rattle.sv_process.specs.declared.frames.Frame.{Frame}
 use Rattle.sv_process.specs.declared.frames.Frame.TheVariants as frame
-use Rattle.sv_process.specs.declared.frames.First.TheVariants as first
 use Rattle.sv_process.specs.Frames.{to_do, rest_at, turn_at, turns_of, turns_at, put_of, put_at, todos_in, todos_of, scope_in, scope_of_step, is_more, IsSettled, IsFirst}
 
 some_same : {a b : Frame} → Some a ≡ Some b → a ≡ b
@@ -106,29 +106,21 @@ by_entry d xs f t us g e =
     let split = last_first xs f g in
     subst (λ u. todos_of d u ≡ t ∷ drop 1 (todos_of d u)) (sym split) (first_of_all (todos_in d f) us t e (todos_of d (drop 1 (reverse xs))))
 
-pub first_nothing : (d : Parts) (xs : List Frame) → length xs ≡ 0 → IsFirst d first.Nothing (todos_of d (reverse xs))
-first_nothing d [] h = refl
-first_nothing d (x ∷ xs) h = absurd (omega arith)
-
-pub first_stmt : (d : Parts) (xs : List Frame) (p : Position) (scope : Option Name) → slice_get xs (length xs - 1) ≡ Some (frame.Rest p scope)
-    → IsFirst d (first.Stmt p scope) (todos_of d (reverse xs))
-first_stmt d xs p scope g = λ s at.
+-- the last entry comes first
+pub first_entry : (d : Parts) (xs : List Frame) (f : Frame) → slice_get xs (length xs - 1) ≡ Some f → IsFirst d f (todos_of d (reverse xs))
+first_entry d xs (frame.Rest p scope) g = λ s at.
     by_entry d xs (frame.Rest p scope) (to_do scope s) (map (to_do scope) (drop (p.place + 1) (body_of d p.routine))) g
     (ap (map (to_do scope)) (stmts_from p.place (body_of d p.routine) s at))
-
-pub first_loop : (d : Parts) (xs : List Frame) (p : Position) (scope : Option Name) → slice_get xs (length xs - 1) ≡ Some (frame.Loop p scope)
-    → IsFirst d (first.Loop p scope) (todos_of d (reverse xs))
-first_loop d xs p scope g = λ s at. by_entry d xs (frame.Loop p scope) (Turn s scope) [] g (ap (λ o. turn_at o scope) at)
-
-pub first_turns : (d : Parts) (xs : List Frame) (p : Position) (n : ℕ) (scope : Option Name) → slice_get xs (length xs - 1) ≡ Some (frame.Turns p n scope)
-    → IsFirst d (first.Turns p n scope) (todos_of d (reverse xs))
-first_turns d xs p n scope g = λ s e body at is.
+first_entry d xs (frame.Loop p scope) g = λ s at. by_entry d xs (frame.Loop p scope) (Turn s scope) [] g (ap (λ o. turn_at o scope) at)
+first_entry d xs (frame.Turns p n scope) g = λ s e body at is.
     by_entry d xs (frame.Turns p n scope) (Turns s.at n body scope) [] g (ap (λ o. turns_at o n scope) at ∙ ap (λ f. turns_of s.at f n scope) is)
-
-pub first_put : (d : Parts) (xs : List Frame) (p : Position) (x : Val) (scope : Option Name) → slice_get xs (length xs - 1) ≡ Some (frame.Put p x scope)
-    → IsFirst d (first.Put p x scope) (todos_of d (reverse xs))
-first_put d xs p x scope g = λ s to e delay t at is.
+first_entry d xs (frame.Put p x scope) g = λ s to e delay t at is.
     by_entry d xs (frame.Put p x scope) (Put s.at to x scope) [] g (ap (λ o. put_at o x scope) at ∙ ap (λ f. put_of s.at f x scope) is)
+
+-- where there is no entry
+pub no_entry : (xs : List Frame) → length xs ≡ 0 → reverse xs ≡ []
+no_entry [] h = refl
+no_entry (x ∷ xs) h = absurd (omega arith)
 
 -- ---- the scope of what comes first
 
@@ -201,6 +193,36 @@ left_one d xs ys f e one =
 -- the entry that comes first has something left
 settled_top : (d : Parts) (xs ys : List Frame) (f : Frame) → xs ≡ ys ++ f ∷ [] → IsSettled d (reverse xs) → is_more (todos_in d f) ≡ true
 settled_top d xs ys f e h = subst (IsSettled d) (ap reverse e ∙ push_first ys f) h
+
+-- a list by its last element
+split_last : (xs : List Frame) (f : Frame) → slice_get xs (length xs - 1) ≡ Some f → (front : List Frame) × (xs ≡ front ++ f ∷ [])
+split_last [] f h = absurd (cc)
+split_last (x ∷ xs) f h =
+    let l = last_of x xs in
+    let same : l.1 ≡ f = some_same (sym (slice_get-last l.0 l.1) ∙ ap (λ (u : List Frame). slice_get u (length u - 1)) (sym l.2) ∙ h) in
+    (l.0, l.2 ∙ ap (λ u. l.0 ++ u ∷ []) same)
+
+slice_set-last : (fs : List Frame) (f g : Frame) → slice_set (fs ++ f ∷ []) (length (fs ++ f ∷ []) - 1) g ≡ fs ++ g ∷ []
+slice_set-last fs f g =
+    let n : length (fs ++ f ∷ []) ≡ length fs + 1 = length-append fs (f ∷ []) in
+    let k : length (fs ++ f ∷ []) - 1 ≡ length fs = omega arith in
+    ap (λ i. slice_set (fs ++ f ∷ []) i g) k ∙ set-append_seam fs f [] g
+
+-- the statements of a routine, from the next place on
+pub left_rest_set : (d : Parts) (xs : List Frame) (p : Position) (scope : Option Name) → slice_get xs (length xs - 1) ≡ Some (frame.Rest p scope)
+    → IsSettled d (reverse xs)
+    → todos_of d (reverse (slice_set xs (length xs - 1) (frame.Rest (record { routine = p.routine; place = p.place + 1 }) scope))) ≡ drop 1 (todos_of d (reverse xs))
+left_rest_set d xs p scope g h =
+    let q : Position = record { routine = p.routine; place = p.place + 1 } in
+    let s = split_last xs (frame.Rest p scope) g in
+    let more : is_more (rest_at d p scope) ≡ true = settled_top d xs s.0 (frame.Rest p scope) s.1 h in
+    let lt : nat_lt p.place (length (body_of d p.routine)) ≡ true = more_rest p.place (body_of d p.routine) scope ∙ more in
+    let zs : slice_set xs (length xs - 1) (frame.Rest q scope) ≡ s.0 ++ frame.Rest q scope ∷ [] =
+    ap (λ (u : List Frame). slice_set u (length u - 1) (frame.Rest q scope)) s.1 ∙ slice_set-last s.0 (frame.Rest p scope) (frame.Rest q scope) in
+    left_rest d xs s.0 (slice_set xs (length xs - 1) (frame.Rest q scope)) p scope s.1 (below p.place (length (body_of d p.routine)) lt) zs
+  where
+    below : (n m : ℕ) → nat_lt n m ≡ true → n < m
+    below n m h = grind (arith, nat_tests)
 
 pub left_loop : (d : Parts) (xs ys : List Frame) (p : Position) (scope : Option Name) → xs ≡ ys ++ frame.Loop p scope ∷ [] → IsSettled d (reverse xs)
     → todos_of d (reverse ys) ≡ drop 1 (todos_of d (reverse xs))

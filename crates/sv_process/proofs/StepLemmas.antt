@@ -17,7 +17,7 @@ use Rattle.sv_flat.specs.Targets.{spots_of}
 use Rattle.sv_built.specs.declared.position.Position.{Position}
 use Rattle.sv_built.specs.Built.{IsBuilt, IsBuiltStmt, IsBuiltForm, IsBuiltRoutine}
 use Rattle.sv_built.specs.Positions.{body_of, stmt_at}
-use Rattle.sv_process.specs.declared.frames.First.TheVariants as first
+use Rattle.sv_process.specs.declared.frames.Frame.TheVariants as frame
 use Rattle.sv_process.specs.Frames.{IsFirst, scope_of_step}
 use Rattle.sv_value.specs.declared.number.ProcessId.{ProcessId}
 use Rattle.sv_flat.specs.declared.design.Parts.{Parts}
@@ -59,7 +59,7 @@ stmt_built d p s h at = each_built (body_of d p.routine) p.place s (routine_buil
 pub form_built : (d : Parts) (p : Position) (s : Stmt) → IsBuilt d → stmt_at d p ≡ Some s → IsBuiltForm s.form
 form_built d p s h at = (stmt_built d p s h at).built
 
-pub comes_bare : (d : Parts) (p : Position) (scope : Option Name) (s : Stmt) (ts : List Todo) → IsBuilt d → stmt_at d p ≡ Some s → IsFirst d (first.Stmt p scope) ts
+pub comes_bare : (d : Parts) (p : Position) (scope : Option Name) (s : Stmt) (ts : List Todo) → IsBuilt d → stmt_at d p ≡ Some s → IsFirst d (frame.Rest p scope) ts
     → ts ≡ Do s [] scope None ∷ drop 1 ts
 comes_bare d p scope s ts h at comes = comes s at ∙ ap (λ cs. Do s cs scope None ∷ drop 1 ts) (stmt_built d p s h at).no_calls
 
@@ -77,7 +77,7 @@ stmt_first d l p next handed scope v s ts r fs es see comes h =
 
 pub loop_first : (d : Parts) (l : Looks) (p : ProcessId) (next : Name) (handed : Option Message) (scope : Option Name) (v : View) (at : Position) (s : Stmt) (ts : List Todo)
     {A : Type 0} (r : Result A Stopped) (fs : List Frame) (es : List Own_effect)
-    → IsBuilt d → stmt_at d at ≡ Some s → l (scope_of_step ts) ≡ v → IsFirst d (first.Loop at scope) ts
+    → IsBuilt d → stmt_at d at ≡ Some s → l (scope_of_step ts) ≡ v → IsFirst d (frame.Loop at scope) ts
     → Does d r fs es (stmt_run d p next scope v s s.form (drop 1 ts)) → Does d r fs es (run_first d l p next handed ts)
 loop_first d l p next handed scope v at s ts r fs es built here see comes h =
     subst (λ us. Does d r fs es (run_first d l p next handed us)) (sym (comes s here))
@@ -86,14 +86,14 @@ loop_first d l p next handed scope v at s ts r fs es built here see comes h =
 
 pub turns_first : (d : Parts) (l : Looks) (p : ProcessId) (next : Name) (handed : Option Message) (at : Position) (n : ℕ) (scope : Option Name) (s : Stmt) (e : Expr) (body : RoutineId)
     (ts : List Todo) (fs : List Frame) (es : List Own_effect)
-    → stmt_at d at ≡ Some s → s.form ≡ form.Repeat e body → IsFirst d (first.Turns at n scope) ts
+    → stmt_at d at ≡ Some s → s.form ≡ form.Repeat e body → IsFirst d (frame.Turns at n scope) ts
     → Leaves d fs es (repeated d s.at n body scope (drop 1 ts)) → Leaves d fs es (run_first d l p next handed ts)
 turns_first d l p next handed at n scope s e body ts fs es here is comes h =
     subst (λ us. Leaves d fs es (run_first d l p next handed us)) (sym (comes s e body here is)) h
 
 pub put_first : (d : Parts) (l : Looks) (p : ProcessId) (next : Name) (handed : Option Message) (scope : Option Name) (v : View) (at : Position) (x : Val) (s : Stmt)
     (to : List Lvalue) (e delay : Expr) (in_ticks : Bool) (ts : List Todo) {A : Type 0} (r : Result A Stopped) (fs : List Frame) (es : List Own_effect)
-    → stmt_at d at ≡ Some s → s.form ≡ form.AssignAfter to e delay in_ticks → l (scope_of_step ts) ≡ v → IsFirst d (first.Put at x scope) ts
+    → stmt_at d at ≡ Some s → s.form ≡ form.AssignAfter to e delay in_ticks → l (scope_of_step ts) ≡ v → IsFirst d (frame.Put at x scope) ts
     → Does d r fs es (from_result (spots_of to v) (λ ss. writes (drop 1 ts) to ss x)) → Does d r fs es (run_first d l p next handed ts)
 put_first d l p next handed scope v at x s to e delay in_ticks ts r fs es here is see comes h =
     let first_is = comes s to e delay in_ticks here is in
@@ -106,16 +106,16 @@ put_first d l p next handed scope v at x s to e delay in_ticks ts r fs es here i
 abbrev pub place_first : List Todo → Place
 place_first ts = unwrap_or (place_of_step ts) no_place
 
-pub place_of_stmt : (d : Parts) (at : Position) (scope : Option Name) (s : Stmt) (ts : List Todo) → stmt_at d at ≡ Some s → IsFirst d (first.Stmt at scope) ts → s.at ≡ place_first ts
+pub place_of_stmt : (d : Parts) (at : Position) (scope : Option Name) (s : Stmt) (ts : List Todo) → stmt_at d at ≡ Some s → IsFirst d (frame.Rest at scope) ts → s.at ≡ place_first ts
 place_of_stmt d at scope s ts here comes = sym (ap place_first (comes s here))
 
-pub place_of_loop : (d : Parts) (at : Position) (scope : Option Name) (s : Stmt) (ts : List Todo) → stmt_at d at ≡ Some s → IsFirst d (first.Loop at scope) ts → s.at ≡ place_first ts
+pub place_of_loop : (d : Parts) (at : Position) (scope : Option Name) (s : Stmt) (ts : List Todo) → stmt_at d at ≡ Some s → IsFirst d (frame.Loop at scope) ts → s.at ≡ place_first ts
 place_of_loop d at scope s ts here comes = sym (ap place_first (comes s here))
 
 pub place_of_turns : (d : Parts) (at : Position) (n : ℕ) (scope : Option Name) (s : Stmt) (e : Expr) (body : RoutineId) (ts : List Todo)
-    → stmt_at d at ≡ Some s → s.form ≡ form.Repeat e body → IsFirst d (first.Turns at n scope) ts → s.at ≡ place_first ts
+    → stmt_at d at ≡ Some s → s.form ≡ form.Repeat e body → IsFirst d (frame.Turns at n scope) ts → s.at ≡ place_first ts
 place_of_turns d at n scope s e body ts here is comes = sym (ap place_first (comes s e body here is))
 
 pub place_of_put : (d : Parts) (at : Position) (x : Val) (scope : Option Name) (s : Stmt) (to : List Lvalue) (e delay : Expr) (in_ticks : Bool) (ts : List Todo)
-    → stmt_at d at ≡ Some s → s.form ≡ form.AssignAfter to e delay in_ticks → IsFirst d (first.Put at x scope) ts → s.at ≡ place_first ts
+    → stmt_at d at ≡ Some s → s.form ≡ form.AssignAfter to e delay in_ticks → IsFirst d (frame.Put at x scope) ts → s.at ≡ place_first ts
 place_of_put d at x scope s to e delay in_ticks ts here is comes = sym (ap place_first (comes s to e delay in_ticks here is))

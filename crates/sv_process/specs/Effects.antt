@@ -75,16 +75,3 @@ OnFault Memory P = Unit {0}
 abbrev pub IsKept : {A : Type 0} → Result A Stopped → (old new : List Frame) → Type 0
 IsKept (Ok x) old new = Unit {0}
 IsKept (Err e) old new = OnFault e (new ≡ old)
-
--- ---- a whole step
-
--- a step that came so far does these effects, or it is stopped
-abbrev pub Runs : Parts → Result Went Stopped → List Frame → List Own_effect → Effects → Type 0
-Runs d (Ok w) fs es all = all ≡ effects_of d w fs es
-Runs d (Err e) fs es all = IsStopped e all
-
--- where nothing is left to run, or a fault is met, the entries are as they were
-abbrev pub RunsKept : Result Went Stopped → (old new : List Frame) → Type 0
-RunsKept (Ok went.On) old new = Unit {0}
-RunsKept (Ok went.Held) old new = new ≡ old
-RunsKept (Err e) old new = OnFault e (new ≡ old)

@@ -17,8 +17,6 @@ use Rattle.sv_built.specs.declared.position.Position.{Position}
 use Rattle.sv_built.specs.Positions.{body_of, stmt_at}
 use Rattle.sv_process.specs.declared.frames.Frame.{Frame}
 use Rattle.sv_process.specs.declared.frames.Frame.TheVariants as frame
-use Rattle.sv_process.specs.declared.frames.First.{First}
-use Rattle.sv_process.specs.declared.frames.First.TheVariants as first
 
 -- a statement with all of its calls, to run in a scope
 abbrev pub to_do : (scope : Option Name) → Stmt → Todo
@@ -82,14 +80,13 @@ abbrev pub IsSettled : Parts → List Frame → Type 0
 IsSettled d [] = Unit {0}
 IsSettled d (f ∷ fs) = is_more (todos_in d f) ≡ true
 
--- this comes first of all that is left
-abbrev pub IsFirst : Parts → First → List Todo → Type 0
-IsFirst d first.Nothing ts = ts ≡ []
-IsFirst d (first.Stmt p scope) ts = (s : Stmt) → stmt_at d p ≡ Some s → ts ≡ to_do scope s ∷ drop 1 ts
-IsFirst d (first.Loop p scope) ts = (s : Stmt) → stmt_at d p ≡ Some s → ts ≡ Turn s scope ∷ drop 1 ts
-IsFirst d (first.Turns p n scope) ts =
+-- this entry comes first of all that is left
+abbrev pub IsFirst : Parts → Frame → List Todo → Type 0
+IsFirst d (frame.Rest p scope) ts = (s : Stmt) → stmt_at d p ≡ Some s → ts ≡ to_do scope s ∷ drop 1 ts
+IsFirst d (frame.Loop p scope) ts = (s : Stmt) → stmt_at d p ≡ Some s → ts ≡ Turn s scope ∷ drop 1 ts
+IsFirst d (frame.Turns p n scope) ts =
     (s : Stmt) (e : Expr) (body : RoutineId) → stmt_at d p ≡ Some s → s.form ≡ form.Repeat e body → ts ≡ Turns s.at n body scope ∷ drop 1 ts
-IsFirst d (first.Put p x scope) ts =
+IsFirst d (frame.Put p x scope) ts =
     (s : Stmt) (to : List Lvalue) (e delay : Expr) (in_ticks : Bool) → stmt_at d p ≡ Some s → s.form ≡ form.AssignAfter to e delay in_ticks
     → ts ≡ Put s.at to x scope ∷ drop 1 ts
 

@@ -60,35 +60,6 @@ impl Drop for Frame {
     }
 }
 
-/// What comes first of all that is left, in its scope.
-#[derive(Drop)]
-pub enum First {
-    /// Nothing is left.
-    Nothing,
-    /// The statement at a position.
-    Stmt {
-        at: Position,
-        scope: Option<Name>,
-    },
-    /// The next test of the loop at a position.
-    Loop {
-        at: Position,
-        scope: Option<Name>,
-    },
-    /// So many turns of the `repeat` at a position.
-    Turns {
-        at: Position,
-        left: u64,
-        scope: Option<Name>,
-    },
-    /// What is left of the `a = #d e` at a position, with its value.
-    Put {
-        at: Position,
-        value: Val,
-        scope: Option<Name>,
-    },
-}
-
 /// What a process has still to run, innermost last. It is seen as the list of its entries, innermost first.
 #[derive(Drop)]
 pub struct Frames {
@@ -173,13 +144,19 @@ impl Frames {
         scope_of(&self.stack, design)
     }
 
-    /// What comes first.
-    pub fn first(&mut self, alloc: Global, design: &Design) -> Result<First, NoMemory>
-        ensures same { todos_of design.now self.new ≡ todos_of design.now self.old }
-        ensures first { IfOk result (λ f. IsFirst design.now f (todos_of design.now self.new)) }
+    /// Drops the entries of which nothing is left.
+    pub fn settle(&mut self, design: &Design)
+        ensures { todos_of design.now self.new ≡ todos_of design.now self.old }
     {
         settle(&mut self.stack, design);
-        first_of(alloc, &self.stack)
+    }
+
+    /// The entry that comes first.
+    pub fn first(&self) -> Option<&Frame>
+        ensures some { IfSome result (λ f. (d : Parts) → IsFirst d f.now (todos_of d self.now)) }
+        ensures none { IfNone result (self.now ≡ []) }
+    {
+        first_of(&self.stack)
     }
 
     /// Leaves what comes first.
@@ -262,35 +239,13 @@ fn settle(stack: &mut Vec<Frame>, design: &Design)
     }
 }
 
-/// What comes first.
-#[tactic(auto, using(crate::proofs::FrameLemmas::first_nothing, crate::proofs::FrameLemmas::first_stmt, crate::proofs::FrameLemmas::first_loop, crate::proofs::FrameLemmas::first_turns, crate::proofs::FrameLemmas::first_put))]
-fn first_of(alloc: Global, stack: &Vec<Frame>) -> Result<First, NoMemory>
-    ensures { IfOk result (λ f. (d : Parts) → IsFirst d f (todos_of d (reverse stack.now.items))) }
+/// The entry that comes first.
+#[tactic(auto, using(crate::proofs::FrameLemmas::first_entry, crate::proofs::FrameLemmas::no_entry))]
+fn first_of(stack: &Vec<Frame>) -> Option<&Frame>
+    ensures some { IfSome result (λ f. (d : Parts) → IsFirst d f.now (todos_of d (reverse stack.now.items))) }
+    ensures none { IfNone result (reverse stack.now.items ≡ []) }
 {
-    match stack.last() {
-        None => Ok(First::Nothing),
-        Some(Frame::Rest { at, scope }) => Ok(First::Stmt {
-            at: *at,
-            scope: *scope,
-        }),
-        Some(Frame::Loop { at, scope }) => Ok(First::Loop {
-            at: *at,
-            scope: *scope,
-        }),
-        Some(Frame::Turns { at, left, scope }) => Ok(First::Turns {
-            at: *at,
-            left: *left,
-            scope: *scope,
-        }),
-        Some(Frame::Put { at, value, scope }) => {
-            let value = value.copy(alloc)?;
-            Ok(First::Put {
-                at: *at,
-                value,
-                scope: *scope,
-            })
-        }
-    }
+    stack.last()
 }
 
 /// The scope in which the statements of an entry run.
@@ -318,29 +273,30 @@ fn scope_of(stack: &Vec<Frame>, design: &Design) -> Option<Name>
     }
 }
 
-/// Leaves what comes first.
-#[tactic(auto, using(crate::proofs::FrameLemmas::left_rest, crate::proofs::FrameLemmas::left_loop, crate::proofs::FrameLemmas::left_turns, crate::proofs::FrameLemmas::left_put))]
+/// Leaves what comes first. Memory is wanting where no number is left for the next place.
+#[tactic(auto, using(crate::proofs::FrameLemmas::left_rest_set, crate::proofs::FrameLemmas::left_loop, crate::proofs::FrameLemmas::left_turns, crate::proofs::FrameLemmas::left_put))]
 fn leave_top(stack: &mut Vec<Frame>, design: &Design) -> Result<(), NoMemory>
     requires { IsSettled design.now (reverse stack.old.items) }
     ensures { OnOk result (todos_of design.now (reverse stack.new.items) ≡ drop 1 (todos_of design.now (reverse stack.old.items))) }
 {
-    match stack.pop() {
-        Some(frame) => match &frame {
-            Frame::Rest { at, scope } => {
-                if at.place >= design.body(at.routine).len() {
-                    return Err(NoMemory::Memory);
-                }
-                let at = Position {
-                    routine: at.routine,
-                    place: at.place + 1,
-                };
-                stack.push(Frame::Rest { at, scope: *scope })?;
-                Ok(())
-            }
-            Frame::Loop { .. } => Ok(()),
-            Frame::Turns { .. } => Ok(()),
-            Frame::Put { .. } => Ok(()),
-        },
-        None => Ok(()),
+    let _ = design;
+    match stack.last() {
+        Some(Frame::Rest { at, scope }) => {
+            let Some(place) = at.place.checked_add(1) else {
+                return Err(NoMemory::Memory);
+            };
+            let routine = at.routine;
+            let next = Frame::Rest {
+                at: Position { routine, place },
+                scope: *scope,
+            };
+            let last = stack.len() - 1;
+            stack[last] = next;
+            Ok(())
+        }
+        _ => {
+            stack.pop();
+            Ok(())
+        }
     }
 }

@@ -4,7 +4,7 @@
 //! - `steps` runs what comes first of that, by its form.
 //! - `branches`, `cases`, `loops` and `jumps` have the statements that choose what comes next; `assigns` and `later` assignments, `waits`
 //!   delays, event controls and `wait`, `prints` prints, `others` the rest. `ends` has how each statement ends.
-//! - `spare` keeps the memory of updates that were done.
+//! - `spare` keeps the memory of updates and effects that were done.
 //!
 //! Each function is told by the words of the definition: the effects that the code gives, with what is left to run, are those that the
 //! definition has for the statement. Memory is wanting, too, for what is not run: `$monitor`, and a `case` of anything but vectors of one
@@ -28,7 +28,7 @@ mod waits;
 mod went;
 
 pub use effect::Effect;
-pub use frames::{First, Frame, Frames};
+pub use frames::{Frame, Frames};
 pub use prints::printed;
 pub use spare::Spare;
 pub use steps::{Stepped, step};

@@ -1,14 +1,19 @@
-// Lists of updates that were done, whose memory serves updates to come.
+// Lists of updates and effects that were done, whose memory serves steps to come.
 ghost use Rattle.std.specs.Prelude.{◌≡◌, [], IfOk};
 
+use crate::Effect;
 use std::alloc::Global;
 use std::marker::Model;
+use std::mem::replace;
 use sv_value::{Job, NoMemory, Update};
 
-/// Empty lists of updates, with the memory that they had. They are seen as nothing: no step depends on them.
+/// Empty lists, with the memory that they had. They are seen as nothing: no step depends on them.
 #[derive(Drop)]
 pub struct Spare {
+    /// Of updates.
     lists: Vec<Vec<Update>>,
+    /// Of effects.
+    effects: Vec<Effect>,
 }
 
 impl Model for Spare {
@@ -22,7 +27,22 @@ impl Spare {
     pub fn none(alloc: Global) -> Spare {
         Spare {
             lists: Vec::new(alloc),
+            effects: Vec::new(alloc),
         }
+    }
+
+    /// An empty list of effects, with the memory of the one that was kept.
+    pub fn effects(&mut self, alloc: Global) -> Vec<Effect>
+        ensures { result.items ≡ [] }
+    {
+        let mut effects = replace(&mut self.effects, Vec::new(alloc));
+        effects.clear();
+        effects
+    }
+
+    /// Keeps the memory of a list of effects.
+    pub fn keep(&mut self, effects: Vec<Effect>) {
+        self.effects = effects;
     }
 
     /// An empty list, with the memory of one that was given back, if there is such.

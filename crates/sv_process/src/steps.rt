@@ -2,8 +2,8 @@
 ghost use Rattle.std.specs.Prelude.{◌≡◌, ◌∷◌, [], List, Option, None, Some, drop, unwrap_or, IfOk, IfSome, OnOk};
 ghost use Rattle.sv_flat.specs.declared.design.Parts.{Parts};
 ghost use Rattle.sv_flat.specs.Statements.Shared.{Effects};
-ghost use Rattle.sv_process.specs.declared.frames.Frame.{Frame};
-ghost use Rattle.sv_process.specs.declared.went.Went.TheVariants.{Held};
+ghost use Rattle.sv_process.specs.declared.frames.Frame.{Frame as Entry};
+ghost use Rattle.sv_process.specs.declared.went.Went.TheVariants.{Held, On};
 ghost use Rattle.sv_value.specs.declared.number.ProcessId.{ProcessId};
 ghost use Rattle.sv_value.specs.declared.val.Message.{Message};
 ghost use Rattle.sv_flat.specs.Micro.{Looks, micro, run_first, place_of_step};
@@ -11,9 +11,10 @@ ghost use Rattle.sv_flat.specs.Process.{ProcessState, Todo, Do, no_place};
 ghost use Rattle.sv_flat.specs.State.{Name};
 ghost use Rattle.sv_built.specs.Built.{IsBuilt, IsBuiltForm};
 ghost use Rattle.sv_built.specs.Positions.{stmt_at};
-ghost use Rattle.sv_process.specs.declared.frames.First.TheVariants as first;
+ghost use Rattle.sv_process.specs.declared.frames.Frame.TheVariants as frame;
+ghost use Rattle.sv_process.specs.declared.effect.Effect.TheVariants.{End};
 ghost use Rattle.sv_process.specs.Frames.{todos_of, IsFirst, Sees};
-ghost use Rattle.sv_process.specs.Effects.{Leaves, Does, IsKept, Runs, RunsKept, effects_of};
+ghost use Rattle.sv_process.specs.Effects.{Does, IsKept, effects_of};
 ghost use Rattle.sv_process.specs.Parts.{stmt_run};
 
 use crate::assigns::{run_assign, run_assign_after, run_put};
@@ -26,7 +27,7 @@ use crate::loops::{run_do, run_forever, run_repeat, run_turns, run_while};
 use crate::others::{run_evaluate, run_finish};
 use crate::prints::{run_print, run_strobe};
 use crate::waits::{run_at, run_delay, run_wait};
-use crate::{Effect, First, Frames, Spare, Went};
+use crate::{Effect, Frame, Frames, Spare, Went};
 use std::alloc::Global;
 use sv_arena::Name;
 use sv_built::{Design, Position};
@@ -283,9 +284,27 @@ fn run_loop<V: Values>(
     }
 }
 
-/// The statement at a position, which comes first.
-#[tactic(auto, using(crate::proofs::StepLemmas::form_built))]
-fn run_stmt_at<V: Values>(
+/// What came of it; a fault is the only effect of the step that meets it.
+fn went_of(out: &mut Vec<Effect>, ran: Result<(), Stopped>) -> Result<Went, NoMemory>
+    ensures does { IfOk result (λ w. (d : Parts) (fs : List Entry) (all : Effects)
+        → Does d ran fs out.old.items all → all ≡ effects_of d w fs out.new.items) }
+    ensures kept { IfOk result (λ w. (old : List Entry) (new : List Entry) → IsKept ran old new → w ≡ Held → new ≡ old) }
+{
+    match ran {
+        Ok(_) => Ok(Went::On),
+        Err(Stopped::Fault(kind)) => {
+            out.clear();
+            put(out, Effect::Fail(kind))?;
+            Ok(Went::Held)
+        }
+        Err(Stopped::Memory) => Err(NoMemory::Memory),
+    }
+}
+
+// ---- what comes first
+
+/// The step that runs the statement at a position.
+fn step_stmt<V: Values>(
     frames: &mut Frames,
     alloc: Global,
     design: &Design,
@@ -294,22 +313,28 @@ fn run_stmt_at<V: Values>(
     spare: &mut Spare,
     at: Position,
     scope: Option<Name>,
-) -> Result<(), Stopped>
+) -> Result<Stepped, NoMemory>
     requires empty { out.old.items ≡ [] }
     requires built { IsBuilt design.now }
-    requires comes { IsFirst design.now (first.Stmt at scope) (todos_of design.now frames.old) }
-    ensures does { (look : Looks) (p : ProcessId) (next : Name) (handed : Option Message) → Sees design.now look frames.old (V.view values.now)
-        → Does design.now result frames.new out.new.items (run_first design.now look p next handed (todos_of design.now frames.old)) }
-    ensures kept { IsKept result frames.old frames.new }
+    requires comes { IsFirst design.now (frame.Rest at scope) (todos_of design.now frames.old) }
+    ensures does { IfOk result (λ s. (look : Looks) (p : ProcessId) (next : Name) (handed : Option Message)
+        → Sees design.now look frames.old (V.view values.now)
+        → run_first design.now look p next handed (todos_of design.now frames.old) ≡ effects_of design.now s.went frames.new out.new.items) }
+    ensures at { IfOk result (λ s. s.at ≡ unwrap_or (place_of_step (todos_of design.now frames.old)) no_place) }
+    ensures held { IfOk result (λ s. s.went ≡ Held → frames.new ≡ frames.old) }
 {
     match stmt_of(design, at) {
-        Some(stmt) => run_form(frames, alloc, design, values, out, spare, at, stmt, scope),
-        None => Err(Stopped::Memory),
+        Some(stmt) => {
+            let ran = run_form(frames, alloc, design, values, out, spare, at, stmt, scope);
+            let went = went_of(out, ran)?;
+            Ok(Stepped { went, at: stmt.at })
+        }
+        None => Err(NoMemory::Memory),
     }
 }
 
-/// The next test of the loop at a position, which comes first.
-fn run_loop_at<V: Values>(
+/// The step that makes the next test of the loop at a position.
+fn step_loop<V: Values>(
     frames: &mut Frames,
     alloc: Global,
     design: &Design,
@@ -317,39 +342,50 @@ fn run_loop_at<V: Values>(
     out: &mut Vec<Effect>,
     at: Position,
     scope: Option<Name>,
-) -> Result<(), Stopped>
+) -> Result<Stepped, NoMemory>
     requires empty { out.old.items ≡ [] }
     requires built { IsBuilt design.now }
-    requires comes { IsFirst design.now (first.Loop at scope) (todos_of design.now frames.old) }
-    ensures does { (look : Looks) (p : ProcessId) (next : Name) (handed : Option Message) → Sees design.now look frames.old (V.view values.now)
-        → Does design.now result frames.new out.new.items (run_first design.now look p next handed (todos_of design.now frames.old)) }
-    ensures kept { IsKept result frames.old frames.new }
+    requires comes { IsFirst design.now (frame.Loop at scope) (todos_of design.now frames.old) }
+    ensures does { IfOk result (λ s. (look : Looks) (p : ProcessId) (next : Name) (handed : Option Message)
+        → Sees design.now look frames.old (V.view values.now)
+        → run_first design.now look p next handed (todos_of design.now frames.old) ≡ effects_of design.now s.went frames.new out.new.items) }
+    ensures at { IfOk result (λ s. s.at ≡ unwrap_or (place_of_step (todos_of design.now frames.old)) no_place) }
+    ensures held { IfOk result (λ s. s.went ≡ Held → frames.new ≡ frames.old) }
 {
     match stmt_of(design, at) {
-        Some(stmt) => run_loop(frames, alloc, design, values, out, at, stmt, scope),
-        None => Err(Stopped::Memory),
+        Some(stmt) => {
+            let ran = run_loop(frames, alloc, design, values, out, at, stmt, scope);
+            let went = went_of(out, ran)?;
+            Ok(Stepped { went, at: stmt.at })
+        }
+        None => Err(NoMemory::Memory),
     }
 }
 
-/// What is left of the `repeat` at a position, which comes first.
-fn run_turns_at(
+/// The step that takes the next of the turns that are left of the `repeat` at a position.
+fn step_turns(
     frames: &mut Frames,
     design: &Design,
     out: &mut Vec<Effect>,
     at: Position,
     left: u64,
     scope: Option<Name>,
-) -> Result<(), NoMemory>
+) -> Result<Stepped, NoMemory>
     requires empty { out.old.items ≡ [] }
-    requires comes { IsFirst design.now (first.Turns at left scope) (todos_of design.now frames.old) }
-    ensures does { OnOk result ((look : Looks) (p : ProcessId) (next : Name) (handed : Option Message) →
-        Leaves design.now frames.new out.new.items (run_first design.now look p next handed (todos_of design.now frames.old))) }
+    requires comes { IsFirst design.now (frame.Turns at left scope) (todos_of design.now frames.old) }
+    ensures does { IfOk result (λ s. (look : Looks) (p : ProcessId) (next : Name) (handed : Option Message)
+        → run_first design.now look p next handed (todos_of design.now frames.old) ≡ effects_of design.now s.went frames.new out.new.items) }
+    ensures at { IfOk result (λ s. s.at ≡ unwrap_or (place_of_step (todos_of design.now frames.old)) no_place) }
+    ensures on { IfOk result (λ s. s.went ≡ On) }
 {
     match stmt_of(design, at) {
         Some(stmt) => match &stmt.form {
             Form::Repeat { count, body } => {
                 run_turns(frames, design, out, at, stmt, count, *body, left, scope)?;
-                Ok(())
+                Ok(Stepped {
+                    went: Went::On,
+                    at: stmt.at,
+                })
             }
             _ => Err(NoMemory::Memory),
         },
@@ -357,8 +393,8 @@ fn run_turns_at(
     }
 }
 
-/// What is left of the `a = #d e` at a position, which comes first.
-fn run_put_at<V: Values>(
+/// The step that does what is left of the `a = #d e` at a position.
+fn step_put<V: Values>(
     frames: &mut Frames,
     alloc: Global,
     design: &Design,
@@ -367,122 +403,43 @@ fn run_put_at<V: Values>(
     at: Position,
     value: Val,
     scope: Option<Name>,
-) -> Result<(), Stopped>
+) -> Result<Stepped, NoMemory>
     requires empty { out.old.items ≡ [] }
-    requires comes { IsFirst design.now (first.Put at value scope) (todos_of design.now frames.old) }
-    ensures does { (look : Looks) (p : ProcessId) (next : Name) (handed : Option Message) → Sees design.now look frames.old (V.view values.now)
-        → Does design.now result frames.new out.new.items (run_first design.now look p next handed (todos_of design.now frames.old)) }
-    ensures kept { IsKept result frames.old frames.new }
+    requires built { IsBuilt design.now }
+    requires comes { IsFirst design.now (frame.Put at value scope) (todos_of design.now frames.old) }
+    ensures does { IfOk result (λ s. (look : Looks) (p : ProcessId) (next : Name) (handed : Option Message)
+        → Sees design.now look frames.old (V.view values.now)
+        → run_first design.now look p next handed (todos_of design.now frames.old) ≡ effects_of design.now s.went frames.new out.new.items) }
+    ensures at { IfOk result (λ s. s.at ≡ unwrap_or (place_of_step (todos_of design.now frames.old)) no_place) }
+    ensures held { IfOk result (λ s. s.went ≡ Held → frames.new ≡ frames.old) }
 {
     match stmt_of(design, at) {
         Some(stmt) => match &stmt.form {
             Form::AssignAfter { targets, .. } => {
-                run_put(
-                    frames,
-                    alloc,
-                    design,
-                    values,
-                    out,
-                    targets.as_slice(),
-                    value,
-                )
+                let targets = targets.as_slice();
+                let ran = run_put(frames, alloc, design, values, out, targets, value);
+                let went = went_of(out, ran)?;
+                Ok(Stepped { went, at: stmt.at })
             }
-            _ => Err(Stopped::Memory),
+            _ => Err(NoMemory::Memory),
         },
-        None => Err(Stopped::Memory),
+        None => Err(NoMemory::Memory),
     }
 }
 
 // ---- the step
 
-/// The place of what comes first. Memory is wanting where it stands nowhere.
-#[tactic(auto, using(crate::proofs::StepLemmas::place_of_stmt, crate::proofs::StepLemmas::place_of_loop, crate::proofs::StepLemmas::place_of_turns, crate::proofs::StepLemmas::place_of_put))]
-fn place_of(design: &Design, first: &First) -> Result<Place, NoMemory>
-    ensures { IfOk result (λ at. (ts : List Todo) → IsFirst design.now first.now ts → at ≡ unwrap_or (place_of_step ts) no_place) }
+/// The step of a process of which nothing is left.
+fn step_over(out: &mut Vec<Effect>) -> Result<Stepped, NoMemory>
+    requires { out.old.items ≡ [] }
+    ensures stepped { IfOk result (λ s. s ≡ record { went = Held; at = no_place }) }
+    ensures out { OnOk result (out.new.items ≡ End ∷ []) }
 {
-    match first {
-        First::Nothing => Ok(NOWHERE),
-        First::Stmt { at, .. } => match stmt_of(design, *at) {
-            Some(stmt) => Ok(stmt.at),
-            None => Err(NoMemory::Memory),
-        },
-        First::Loop { at, .. } => match stmt_of(design, *at) {
-            Some(stmt) => Ok(stmt.at),
-            None => Err(NoMemory::Memory),
-        },
-        First::Turns { at, .. } => match stmt_of(design, *at) {
-            Some(stmt) => match &stmt.form {
-                Form::Repeat { .. } => Ok(stmt.at),
-                _ => Err(NoMemory::Memory),
-            },
-            None => Err(NoMemory::Memory),
-        },
-        First::Put { at, .. } => match stmt_of(design, *at) {
-            Some(stmt) => match &stmt.form {
-                Form::AssignAfter { .. } => Ok(stmt.at),
-                _ => Err(NoMemory::Memory),
-            },
-            None => Err(NoMemory::Memory),
-        },
-    }
-}
-
-/// Runs what comes first.
-fn run<V: Values>(
-    frames: &mut Frames,
-    alloc: Global,
-    design: &Design,
-    values: &V,
-    out: &mut Vec<Effect>,
-    spare: &mut Spare,
-    first: First,
-) -> Result<Went, Stopped>
-    requires empty { out.old.items ≡ [] }
-    requires built { IsBuilt design.now }
-    requires comes { IsFirst design.now first (todos_of design.now frames.old) }
-    ensures does { (look : Looks) (p : ProcessId) (next : Name) (handed : Option Message) → Sees design.now look frames.old (V.view values.now)
-        → Runs design.now result frames.new out.new.items (run_first design.now look p next handed (todos_of design.now frames.old)) }
-    ensures kept { RunsKept result frames.old frames.new }
-{
-    match first {
-        First::Nothing => {
-            put(out, Effect::End)?;
-            Ok(Went::Held)
-        }
-        First::Stmt { at, scope } => {
-            run_stmt_at(frames, alloc, design, values, out, spare, at, scope)?;
-            Ok(Went::On)
-        }
-        First::Loop { at, scope } => {
-            run_loop_at(frames, alloc, design, values, out, at, scope)?;
-            Ok(Went::On)
-        }
-        First::Turns { at, left, scope } => {
-            run_turns_at(frames, design, out, at, left, scope)?;
-            Ok(Went::On)
-        }
-        First::Put { at, value, scope } => {
-            run_put_at(frames, alloc, design, values, out, at, value, scope)?;
-            Ok(Went::On)
-        }
-    }
-}
-
-/// What came of it; a fault is the only effect of the step that meets it.
-fn went_of(out: &mut Vec<Effect>, ran: Result<Went, Stopped>) -> Result<Went, NoMemory>
-    ensures does { IfOk result (λ w. (d : Parts) (fs : List Frame) (all : Effects)
-        → Runs d ran fs out.old.items all → all ≡ effects_of d w fs out.new.items) }
-    ensures kept { IfOk result (λ w. (old : List Frame) (new : List Frame) → RunsKept ran old new → w ≡ Held → new ≡ old) }
-{
-    match ran {
-        Ok(went) => Ok(went),
-        Err(Stopped::Fault(kind)) => {
-            out.clear();
-            put(out, Effect::Fail(kind))?;
-            Ok(Went::Held)
-        }
-        Err(Stopped::Memory) => Err(NoMemory::Memory),
-    }
+    put(out, Effect::End)?;
+    Ok(Stepped {
+        went: Went::Held,
+        at: NOWHERE,
+    })
 }
 
 /// The next step of a process: what it does, in order, and what it leaves to run.
@@ -503,9 +460,25 @@ pub fn step<V: Values>(
     ensures at { IfOk result (λ s. s.at ≡ unwrap_or (place_of_step (todos_of design.now frames.old)) no_place) }
     ensures held { IfOk result (λ s. s.went ≡ Held → todos_of design.now frames.new ≡ todos_of design.now frames.old) }
 {
-    let first = frames.first(alloc, design)?;
-    let at = place_of(design, &first)?;
-    let ran = run(frames, alloc, design, values, out, spare, first);
-    let went = went_of(out, ran)?;
-    Ok(Stepped { went, at })
+    frames.settle(design);
+    match frames.first() {
+        None => step_over(out),
+        Some(Frame::Rest { at, scope }) => {
+            let (at, scope) = (*at, *scope);
+            step_stmt(frames, alloc, design, values, out, spare, at, scope)
+        }
+        Some(Frame::Loop { at, scope }) => {
+            let (at, scope) = (*at, *scope);
+            step_loop(frames, alloc, design, values, out, at, scope)
+        }
+        Some(Frame::Turns { at, left, scope }) => {
+            let (at, left, scope) = (*at, *left, *scope);
+            step_turns(frames, design, out, at, left, scope)
+        }
+        Some(Frame::Put { at, value, scope }) => {
+            let (at, scope) = (*at, *scope);
+            let value = value.copy(alloc)?;
+            step_put(frames, alloc, design, values, out, at, value, scope)
+        }
+    }
 }

@@ -1,9 +1,0 @@
-use Rattle.std.proofs.Common.{rules}
-use Rattle.sv_process.specs.Frames.{todos_of}
-use Rattle.sv_process.proofs.StepLemmas.{loop_first}
-use Rattle.sv_process.proofs.steps.run_loop_at.Goals as goal
-
-pub returns-in-Some-clause-does : goal.returns-in-Some-clause-does
-returns-in-Some-clause-does g c = λ look p next handed see.
-    loop_first c.args.design.now look p next handed c.args.scope (g.V.Values.view c.args.values.now) c.args.at c.in-Some.stmt.now (todos_of c.args.design.now c.args.frames.now) _ _ _
-    c.requires.built (search rules) see c.requires.comes (c.run_loop.ensures.does p next)
