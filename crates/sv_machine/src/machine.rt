@@ -43,6 +43,6 @@ pub struct Machine {
     pub used_active: u64,
     pub used_reactive: u64,
     pub fault: Option<RunFault>,
-    /// The memory of updates that were done.
+    /// The memory of updates and effects that were done.
     pub spare: Spare,
 }

@@ -31,7 +31,7 @@ pub fn run_statement(
         (statement_ran design.now (Some process)) lines.old.items lines.new.items) }
     ensures moment { SameMoment machine.old machine.new }
 {
-    let mut effects = Vec::new(machine.alloc);
+    let mut effects = machine.spare.effects(machine.alloc);
     let seen = Seen {
         store: &machine.store,
         time: machine.time,
@@ -46,7 +46,9 @@ pub fn run_statement(
         &mut machine.spare,
     )?;
     effects.reverse();
-    occur_all(machine, design, process, stepped.at, &mut effects, lines)
+    let done = occur_all(machine, design, process, stepped.at, &mut effects, lines);
+    machine.spare.keep(effects);
+    done
 }
 
 /// Effects of the running process, from the last of the list on, as long as it runs and meets no fault.

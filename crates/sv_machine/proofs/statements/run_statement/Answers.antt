@@ -21,8 +21,8 @@ use Rattle.sv_machine.proofs.statements.run_statement.Goals as goal
 pub index_mut-requires : goal.index_mut-requires
 index_mut-requires c = let k = has_frames c.args.design.now c.args.machine.now c.requires.at c.args.process c.requires.running in search rules
 
-pub occur_all-requires-clause-at : goal.occur_all-requires-clause-at
-occur_all-requires-clause-at c =
+pub occur_all-done-requires-clause-at : goal.occur_all-done-requires-clause-at
+occur_all-done-requires-clause-at c =
     let d = c.args.design.now in
     let p = c.args.process in
     let m = c.args.machine.now in
@@ -37,8 +37,8 @@ occur_all-requires-clause-at c =
     (λ e. c.in_ok-stepped.ensures.held e ∙ ap (todos_of d) is) in
     step_at d c.requires.built p m n c.requires.running c.in_ok-stepped.stepped (get_or m.processes.items p.0 none) c.step.new.frames c.step.new.out.items h c.requires.at
 
-pub occur_all-requires-clause-plain : goal.occur_all-requires-clause-plain
-occur_all-requires-clause-plain c =
+pub occur_all-done-requires-clause-plain : goal.occur_all-done-requires-clause-plain
+occur_all-done-requires-clause-plain c =
     let d = c.args.design.now in
     let p = c.args.process in
     let m = c.args.machine.now in
@@ -68,12 +68,12 @@ returns-clause-ok c =
     (λ look q s e f. c.in_ok-stepped.ensures.does look q s (ap (λ (fs : List Frame). look (scope_of_step (todos_of d fs))) is ∙ e ∙ ap (view_in m.store m.time) (sym u)) (f ∙ ap (todos_of d) (sym is)))
     (c.in_ok-stepped.ensures.at ∙ ap (λ (fs : List Frame). unwrap_or (place_of_step (todos_of d fs)) no_place) is)
     (λ e. c.in_ok-stepped.ensures.held e ∙ ap (todos_of d) is) in
-    let l = c.occur_all.new.machine in
+    let l = c.occur_all-done.new.machine in
     let at = c.in_ok-stepped.stepped.at in
-    ok_given c.occur_all.result _ _
-    (λ k. (step_makes d c.requires.built p m n c.requires.running c.in_ok-stepped.stepped (get_or m.processes.items p.0 none) c.step.new.frames c.step.new.out.items h l c.args.lines.now.items c.occur_all.new.lines.items
-    (subst (λ (es : List Own_effect). Does d n l (all_occurred d at p (effects_in d es)) c.args.lines.now.items c.occur_all.new.lines.items) (ap (reverse {A = Own_effect}) c.reverse.ensures.items ∙ reverse_twice c.step.new.out.items) k)).makes)
-    c.occur_all.ensures.ok
+    ok_given c.occur_all-done.result _ _
+    (λ k. (step_makes d c.requires.built p m n c.requires.running c.in_ok-stepped.stepped (get_or m.processes.items p.0 none) c.step.new.frames c.step.new.out.items h l c.args.lines.now.items c.occur_all-done.new.lines.items
+    (subst (λ (es : List Own_effect). Does d n l (all_occurred d at p (effects_in d es)) c.args.lines.now.items c.occur_all-done.new.lines.items) (ap (reverse {A = Own_effect}) c.reverse.ensures.items ∙ reverse_twice c.step.new.out.items) k)).makes)
+    c.occur_all-done.ensures.ok
 
 pub returns-clause-lines : goal.returns-clause-lines
 returns-clause-lines c =
@@ -89,9 +89,9 @@ returns-clause-lines c =
     (λ look q s e f. c.in_ok-stepped.ensures.does look q s (ap (λ (fs : List Frame). look (scope_of_step (todos_of d fs))) is ∙ e ∙ ap (view_in m.store m.time) (sym u)) (f ∙ ap (todos_of d) (sym is)))
     (c.in_ok-stepped.ensures.at ∙ ap (λ (fs : List Frame). unwrap_or (place_of_step (todos_of d fs)) no_place) is)
     (λ e. c.in_ok-stepped.ensures.held e ∙ ap (todos_of d) is) in
-    let l = c.occur_all.new.machine in
+    let l = c.occur_all-done.new.machine in
     let at = c.in_ok-stepped.stepped.at in
-    ok_given c.occur_all.result _ _
-    (λ k. (step_makes d c.requires.built p m n c.requires.running c.in_ok-stepped.stepped (get_or m.processes.items p.0 none) c.step.new.frames c.step.new.out.items h l c.args.lines.now.items c.occur_all.new.lines.items
-    (subst (λ (es : List Own_effect). Does d n l (all_occurred d at p (effects_in d es)) c.args.lines.now.items c.occur_all.new.lines.items) (ap (reverse {A = Own_effect}) c.reverse.ensures.items ∙ reverse_twice c.step.new.out.items) k)).adds)
-    c.occur_all.ensures.ok
+    ok_given c.occur_all-done.result _ _
+    (λ k. (step_makes d c.requires.built p m n c.requires.running c.in_ok-stepped.stepped (get_or m.processes.items p.0 none) c.step.new.frames c.step.new.out.items h l c.args.lines.now.items c.occur_all-done.new.lines.items
+    (subst (λ (es : List Own_effect). Does d n l (all_occurred d at p (effects_in d es)) c.args.lines.now.items c.occur_all-done.new.lines.items) (ap (reverse {A = Own_effect}) c.reverse.ensures.items ∙ reverse_twice c.step.new.out.items) k)).adds)
+    c.occur_all-done.ensures.ok
