@@ -7,7 +7,7 @@ ghost use Rattle.sv_process.specs.declared.went.Went.TheVariants.{Held, On};
 ghost use Rattle.sv_value.specs.declared.number.ProcessId.{ProcessId};
 ghost use Rattle.sv_value.specs.declared.val.Message.{Message};
 ghost use Rattle.sv_flat.specs.Micro.{Looks, micro, run_first, place_of_step};
-ghost use Rattle.sv_flat.specs.Process.{ProcessState, Todo, Do, no_place};
+ghost use Rattle.sv_flat.specs.Process.{ProcessState, Do, no_place};
 ghost use Rattle.sv_flat.specs.State.{Name};
 ghost use Rattle.sv_built.specs.Built.{IsBuilt, IsBuiltForm};
 ghost use Rattle.sv_built.specs.Positions.{stmt_at};
