@@ -1,5 +1,5 @@
 -- How the rings and the map keep the future.
-use Rattle.std.proofs.Common.{ℕ, ◌≡◌, ◌+◌, ◌-◌, ◌*◌, ◌/◌, ◌%◌, ◌<◌, ◌≤◌, List, [], ◌∷◌, ◌++◌, None, Some, refl, ap, sym, ◌∙◌, arith, inl, inr, ◌⊎◌, subst, length}
+use Rattle.std.proofs.Common.{ℕ, ◌≡◌, ◌+◌, ◌-◌, ◌*◌, ◌/◌, ◌%◌, ◌<◌, ◌≤◌, List, [], ◌∷◌, None, Some, refl, ap, sym, ◌∙◌, arith, inl, inr, ◌⊎◌, subst, length}
 use Rattle.std.specs.Prelude.{Option, max, IfSome, IfNone, ◌==◌, filter, get_or, set}
 use Rattle.std.proofs.lemmas.Bool.{cases_eq, cases_lt}
 use Rattle.std.proofs.lemmas.List.{get_or-set_same, get_or-set_other, get_or_default, length-set}
@@ -10,7 +10,7 @@ use Rattle.sv_value.specs.declared.schedule.Event.{Event}
 use Rattle.sv_flat.specs.Steps.{least_time}
 use Rattle.sv_flat.specs.Effects.Ends.{not_due_to}
 use Rattle.sv_sched.specs.Future.{first_at, without_first_at, due_at}
-use Rattle.sv_sched.specs.Rings.{time_of_first, in_queue, queued, left_in, ring_at, IsKept, IsFirstNear}
+use Rattle.sv_sched.specs.Rings.{time_of_first, queued, left_in, ring_at, IsKept, IsFirstNear}
 use Rattle.sv_sched.proofs.FutureLemmas.{AllFrom-least_time}
 use Rattle.sv_sched.proofs.DueLemmas.{first_is, first_time_is, left_is, other_left, filter-filter, none_before, least_due, least_is, none_is}
 

@@ -1,5 +1,5 @@
 -- How the future is kept: the moments from the last on in rings, each later one in a map (IEEE 1800-2017, 4.4).
-use Rattle.std.specs.Prelude.{ℕ, ◌≡◌, ◌+◌, ◌%◌, ◌<◌, ◌≤◌, List, [], ◌∷◌, length, filter, get_or, Option, None, Some}
+use Rattle.std.specs.Prelude.{ℕ, ◌≡◌, ◌+◌, ◌%◌, ◌<◌, ◌≤◌, List, [], ◌∷◌, length, filter, get_or, Option, None, Some, min}
 use Rattle.sv_value.specs.declared.number.ProcessId.{ProcessId}
 use Rattle.sv_value.specs.declared.schedule.Event.{Event}
 use Rattle.sv_flat.specs.Effects.Ends.{not_due_to}
@@ -9,6 +9,11 @@ use Rattle.sv_sched.specs.Future.{due_at}
 abbrev pub time_of_first : List Event → Option ℕ
 time_of_first [] = None
 time_of_first (e ∷ es) = Some e.time
+
+-- the first of moments to which this one comes
+abbrev pub with_moment : Option ℕ → ℕ → ℕ
+with_moment None t = t
+with_moment (Some u) t = min u t
 
 -- the events that a queue of the map has, if there is one
 abbrev pub in_queue : Option (List Event) → List Event
