@@ -1,6 +1,6 @@
 // Which side acts, and what the lists of choices pick there (IEEE 1800-2017, 4.7).
 ghost use Rattle.std.specs.Prelude.{◌≡◌, ◌<◌, ◌+◌, ◌^◌, OnOk, None};
-ghost use Rattle.sv_value.specs.Regions.{pickable};
+ghost use Rattle.sv_value.specs.Regions.{pickable, set_of};
 ghost use Rattle.sv_flat.specs.Directed.{place_among, IsListed};
 ghost use Rattle.sv_built.specs.Built.{IsBuilt};
 ghost use Rattle.sv_machine.specs.Machine.{Makes, IsAt, IsSteady, SameMoment};
@@ -28,13 +28,17 @@ pub fn acting(machine: &Machine) -> Side
     }
 }
 
-/// The pick that the lists choose in the acting set: a process begins to run, or a job is done.
+/// The pick that the lists choose in the acting set, on a side where so many are open: a process begins to run, or a job is done.
 pub fn take_pick(
     machine: &mut Machine,
     design: &Design,
     active: &Choices,
     reactive: &Choices,
+    side: Side,
+    count: u32,
 ) -> Result<(), NoMemory>
+    requires side { side ≡ acting_side machine.old }
+    requires count { count ≡ pickable (set_of side machine.old.regions) }
     requires open { 0 < pickable (acting_set machine.old) }
     requires idle { machine.old.running ≡ None }
     requires active { IsListed active.now }
@@ -44,8 +48,6 @@ pub fn take_pick(
     ensures taken { OnOk result (Makes design.now machine.old machine.new (picked design.now active.now reactive.now)) }
     ensures time { machine.new.time ≡ machine.old.time }
 {
-    let side = acting(machine);
-    let count = machine.regions.pickable(side);
     let place = place_on(machine, active, reactive, side, count);
     do_pick(machine, design, side, place)?;
     machine.executed = side;
@@ -66,11 +68,7 @@ fn do_pick(machine: &mut Machine, design: &Design, side: Side, place: u32) -> Re
 {
     match machine.regions.take(side, place) {
         Picked::Process(process) => begin_process(machine, design, process),
-        Picked::Job(job) => {
-            do_job(machine, design, &job)?;
-            machine.spare.give(job);
-            Ok(())
-        }
+        Picked::Job(job) => do_job(machine, design, job),
     }
 }
 

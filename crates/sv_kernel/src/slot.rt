@@ -6,7 +6,7 @@ ghost use Rattle.sv_flat.specs.Steps.{Begin_slot, Move_region, End_slot, after, 
 ghost use Rattle.sv_flat.specs.Directed.{advanced, IsListed};
 ghost use Rattle.sv_built.specs.Built.{IsBuilt};
 ghost use Rattle.sv_machine.specs.Machine.{Makes, IsAt, IsSteady, SameMoment};
-ghost use Rattle.sv_kernel.specs.Picks.{IsMoving, idled, acting_set};
+ghost use Rattle.sv_kernel.specs.Picks.{IsMoving, idled, acting_side, acting_set};
 ghost use Rattle.sv_kernel.specs.Log.{AddsRecords};
 
 use crate::future::next_time;
@@ -16,13 +16,15 @@ use sv_flat::Choices;
 use sv_machine::{Line, Machine, print_strobes, run_statement};
 use sv_value::{NoMemory, Phase, ProcessId, Side};
 
-/// Makes the step that the lists direct, and gives what it prints.
+/// Makes the step that the lists direct. What it prints comes into the list.
 pub fn advance(
     machine: &mut Machine,
     design: &Design,
     active: &Choices,
     reactive: &Choices,
-) -> Result<Vec<Line>, NoMemory>
+    lines: &mut Vec<Line>,
+) -> Result<(), NoMemory>
+    requires empty { lines.old.items ≡ [] }
     requires going { machine.old.phase ≡ Phase.Ended
         → (machine.old.finishing ≡ false) × (machine.old.wheel.events ≢ []) }
     requires steady { IsSteady design.now machine.old }
@@ -30,8 +32,8 @@ pub fn advance(
     requires active { IsListed active.now }
     requires reactive { IsListed reactive.now }
     ensures ok { OnOk result (Makes design.now machine.old machine.new (advanced design.now active.now reactive.now)) }
-    ensures lines { IfOk result (λ lines.
-        AddsRecords design.now machine.old (advanced design.now active.now reactive.now) lines.items) }
+    ensures lines { OnOk result (
+        AddsRecords design.now machine.old (advanced design.now active.now reactive.now) lines.new.items) }
     ensures begins { machine.old.phase ≡ Phase.NotBegun → IsOk result }
     ensures moves { machine.old.phase ≡ Phase.Open → machine.old.finishing ≡ false → machine.old.running ≡ None
         → IsMoving (acting_set machine.old) → IsOk result }
@@ -40,12 +42,12 @@ pub fn advance(
     match machine.phase {
         Phase::NotBegun => {
             begin_slot(machine);
-            Ok(Vec::new(machine.alloc))
+            Ok(())
         }
-        Phase::Open => in_slot(machine, design, active, reactive),
+        Phase::Open => in_slot(machine, design, active, reactive, lines),
         Phase::Ended => {
             next_time(machine, design)?;
-            Ok(Vec::new(machine.alloc))
+            Ok(())
         }
     }
 }
@@ -58,104 +60,115 @@ fn begin_slot(machine: &mut Machine)
     machine.executed = Side::Active;
 }
 
-/// A step of a slot that is open.
+/// A step of a slot that is open. What it prints comes into the list.
 fn in_slot(
     machine: &mut Machine,
     design: &Design,
     active: &Choices,
     reactive: &Choices,
-) -> Result<Vec<Line>, NoMemory>
+    lines: &mut Vec<Line>,
+) -> Result<(), NoMemory>
+    requires empty { lines.old.items ≡ [] }
     requires open { machine.old.phase ≡ Phase.Open }
     requires steady { IsSteady design.now machine.old }
     requires built { IsBuilt design.now }
     requires active { IsListed active.now }
     requires reactive { IsListed reactive.now }
     ensures ok { OnOk result (Makes design.now machine.old machine.new (advanced design.now active.now reactive.now)) }
-    ensures lines { IfOk result (λ lines.
-        AddsRecords design.now machine.old (advanced design.now active.now reactive.now) lines.items) }
+    ensures lines { OnOk result (
+        AddsRecords design.now machine.old (advanced design.now active.now reactive.now) lines.new.items) }
     ensures moves { machine.old.finishing ≡ false → machine.old.running ≡ None
         → IsMoving (acting_set machine.old) → IsOk result }
     ensures time { machine.new.time ≡ machine.old.time }
 {
     if machine.finishing {
-        return end_slot(machine, design);
+        let side = acting(machine);
+        return end_slot(machine, design, side, lines);
     }
     match machine.running {
-        Some(process) => step_running(machine, design, process),
-        None => step_idle(machine, design, active, reactive),
+        Some(process) => step_running(machine, design, process, lines),
+        None => step_idle(machine, design, active, reactive, lines),
     }
 }
 
-/// The next step of the process that runs. It gives what is printed.
+/// The next step of the process that runs. What it prints comes into the list.
 fn step_running(
     machine: &mut Machine,
     design: &Design,
     process: ProcessId,
-) -> Result<Vec<Line>, NoMemory>
+    lines: &mut Vec<Line>,
+) -> Result<(), NoMemory>
+    requires empty { lines.old.items ≡ [] }
     requires at { IsAt design.now machine.old }
     requires running { machine.old.running ≡ Some process }
     requires built { IsBuilt design.now }
     ensures ok { OnOk result (Makes design.now machine.old machine.new (statement_ran design.now (Some process))) }
-    ensures lines { IfOk result (λ lines.
-        AddsRecords design.now machine.old (statement_ran design.now (Some process)) lines.items) }
+    ensures lines { OnOk result (
+        AddsRecords design.now machine.old (statement_ran design.now (Some process)) lines.new.items) }
     ensures moment { SameMoment machine.old machine.new }
 {
-    let mut lines = Vec::new(machine.alloc);
-    run_statement(machine, design, process, &mut lines)?;
-    Ok(lines)
+    run_statement(machine, design, process, lines)
 }
 
-/// A step of a slot in which no process runs. It gives what is printed.
+/// A step of a slot in which no process runs. What it prints comes into the list.
 fn step_idle(
     machine: &mut Machine,
     design: &Design,
     active: &Choices,
     reactive: &Choices,
-) -> Result<Vec<Line>, NoMemory>
+    lines: &mut Vec<Line>,
+) -> Result<(), NoMemory>
+    requires empty { lines.old.items ≡ [] }
     requires idle { machine.old.running ≡ None }
     requires active { IsListed active.now }
     requires reactive { IsListed reactive.now }
     requires built { IsBuilt design.now }
     requires steady { IsSteady design.now machine.old }
     ensures done { OnOk result (Makes design.now machine.old machine.new (idled design.now active.now reactive.now)) }
-    ensures lines { IfOk result (λ lines.
-        AddsRecords design.now machine.old (idled design.now active.now reactive.now) lines.items) }
+    ensures lines { OnOk result (
+        AddsRecords design.now machine.old (idled design.now active.now reactive.now) lines.new.items) }
     ensures moves { IsMoving (acting_set machine.old) → IsOk result }
     ensures time { machine.new.time ≡ machine.old.time }
 {
     let side = acting(machine);
-    if machine.regions.pickable(side) > 0 {
-        take_pick(machine, design, active, reactive)?;
-        return Ok(Vec::new(machine.alloc));
+    let count = machine.regions.pickable(side);
+    if count > 0 {
+        take_pick(machine, design, active, reactive, side, count)?;
+        return Ok(());
     }
     if machine.regions.is_bare(side) {
-        return end_slot(machine, design);
+        return end_slot(machine, design, side, lines);
     }
-    move_region(machine);
-    Ok(Vec::new(machine.alloc))
+    move_region(machine, side);
+    Ok(())
 }
 
 /// The first region of the acting set that is not empty stands in its front.
-fn move_region(machine: &mut Machine)
-    requires { is_front_empty (acting_set machine.old) ≡ true }
+fn move_region(machine: &mut Machine, side: Side)
+    requires side { side ≡ acting_side machine.old }
+    requires empty { is_front_empty (acting_set machine.old) ≡ true }
     ensures moved { (d : Parts) → Makes d machine.old machine.new (λ c. after d c Move_region) }
     ensures time { machine.new.time ≡ machine.old.time }
 {
-    let side = acting(machine);
     machine.regions.move_first(side);
     machine.executed = side;
 }
 
-/// A slot ends, unless one of its strobes meets a fault. It gives what the strobes print.
-fn end_slot(machine: &mut Machine, design: &Design) -> Result<Vec<Line>, NoMemory>
+/// A slot ends, unless one of its strobes meets a fault. What the strobes print comes into the list.
+fn end_slot(
+    machine: &mut Machine,
+    design: &Design,
+    side: Side,
+    lines: &mut Vec<Line>,
+) -> Result<(), NoMemory>
+    requires side { side ≡ acting_side machine.old }
     requires built { IsBuilt design.now }
     requires steady { IsSteady design.now machine.old }
     ensures ended { OnOk result (Makes design.now machine.old machine.new (λ c. after design.now c End_slot)) }
-    ensures lines { IfOk result (λ lines.
-        AddsRecords design.now machine.old (λ c. after design.now c End_slot) lines.items) }
+    ensures lines { OnOk result (
+        AddsRecords design.now machine.old (λ c. after design.now c End_slot) lines.new.items) }
     ensures time { machine.new.time ≡ machine.old.time }
 {
-    let side = acting(machine);
     let printed = print_strobes(machine, design)?;
     machine.executed = side;
     match printed.fault {
@@ -166,5 +179,6 @@ fn end_slot(machine: &mut Machine, design: &Design) -> Result<Vec<Line>, NoMemor
             machine.strobes.clear();
         }
     }
-    Ok(printed.lines)
+    *lines = printed.lines;
+    Ok(())
 }

@@ -1,5 +1,5 @@
 // Changes of values: what is written, and whom it wakes (IEEE 1800-2017, 9.4.2 and 10.4).
-ghost use Rattle.std.specs.Prelude.{◌≡◌, ◌≤◌, ◌+◌, [], ℕ, OnOk, OnErr, length, sum_by};
+ghost use Rattle.std.specs.Prelude.{◌≡◌, ◌≤◌, ◌+◌, [], ℕ, OnOk, OnErr, length, reverse, sum_by};
 ghost use Rattle.sv_value.specs.declared.number.ProcessId.{ProcessId as ProcessNumber};
 ghost use Rattle.sv_value.specs.Regions.{standing};
 ghost use Rattle.sv_flat.specs.Steps.{job_done, updates_written};
@@ -21,7 +21,7 @@ use sv_built::Design;
 use sv_sched::Regions;
 use sv_sense::Sense;
 use sv_store::{Overwritten, Store};
-use sv_value::{Job, NoMemory, Target, Update, Val};
+use sv_value::{Job, NoMemory, Seq, Target, Update, Val};
 
 /// Lets those go on whom a change wakes, by number.
 fn wake(
@@ -83,35 +83,47 @@ pub fn write(
     }
 }
 
-/// Does a job: its updates, from the left, each as a change.
-pub fn do_job(machine: &mut Machine, design: &Design, job: &Job) -> Result<(), NoMemory>
+/// Does a job: its updates, from the left, each as a change. The memory of their list is kept.
+pub fn do_job(machine: &mut Machine, design: &Design, job: Job) -> Result<(), NoMemory>
     requires at { IsAt design.now machine.old }
     requires built { IsBuilt design.now }
-    requires job { IsPlainJob job.now }
-    ensures ok { OnOk result (Makes design.now machine.old machine.new (job_done design.now job.now)) }
+    requires job { IsPlainJob job }
+    ensures ok { OnOk result (Makes design.now machine.old machine.new (job_done design.now job)) }
     ensures same { OnOk result (SameButValues machine.old machine.new) }
     ensures moment { SameMoment machine.old machine.new }
 {
     match job {
-        Job::Update(updates) => write_updates(machine, design, updates.as_slice()),
+        Job::Update(updates) => {
+            let mut list = updates.into_vec();
+            list.reverse();
+            write_updates(machine, design, &mut list)?;
+            machine.spare.give(Job::Update(Seq::from_vec(list)));
+            Ok(())
+        }
         Job::Clock(_) => unreachable!(),
     }
 }
 
-/// Writes the values of updates, from the left.
-fn write_updates(machine: &mut Machine, design: &Design, updates: &[Update]) -> Result<(), NoMemory>
+/// Writes the values of updates, from the last of the list on.
+fn write_updates(
+    machine: &mut Machine,
+    design: &Design,
+    updates: &mut Vec<Update>,
+) -> Result<(), NoMemory>
     requires at { IsAt design.now machine.old }
     requires built { IsBuilt design.now }
-    ensures ok { OnOk result (Makes design.now machine.old machine.new (updates_written design.now updates.now)) }
+    ensures ok { OnOk result (Makes design.now machine.old machine.new (updates_written design.now (reverse updates.old.items))) }
     ensures same { OnOk result (SameButValues machine.old machine.new) }
     ensures moment { SameMoment machine.old machine.new }
 {
-    match updates {
-        [] => Ok(()),
-        [update, rest @ ..] => {
-            let value = update.value.copy(machine.alloc)?;
-            write(machine, design, &Target::Object(update.target), value)?;
-            write_updates(machine, design, rest)
-        }
-    }
+    let Some(update) = updates.pop() else {
+        return Ok(());
+    };
+    write(
+        machine,
+        design,
+        &Target::Object(update.target),
+        update.value,
+    )?;
+    write_updates(machine, design, updates)
 }

@@ -41,7 +41,9 @@ returns-in-Process-clause-numbers c =
     (λ h. process_numbers c.args.design.now c.requires.built c.args.machine.now c.args.side c.args.place c.take.new.self c.requires.side c.take.ensures.left c.begin_process.new.machine at.config at.stands c.in-Process.process c.requires.idle got h)
     c.begin_process.ensures.begins
 
-pub returns-in_ok-do_job-in-Job-clause-done : goal.returns-in_ok-do_job-in-Job-clause-done
-returns-in_ok-do_job-in-Job-clause-done c =
+pub returns-in-Job-clause-done : goal.returns-in-Job-clause-done
+returns-in-Job-clause-done c =
     let got : slice_get (picks (set_of c.args.side c.args.machine.now.regions)) c.args.place ≡ Some (picked.Job c.in-Job.job) = c.take.ensures.pick ∙ ap Some c.in-Job.is in
-    job_picked_done c.args.design.now c.requires.built c.args.machine.now c.args.side c.args.place c.take.new.self c.requires.side c.take.ensures.left c.do_job.new.machine c.in-Job.job got c.in_ok-do_job-in-Job.ensures.ok
+    on_ok_weaker c.do_job.result
+    (λ h. job_picked_done c.args.design.now c.requires.built c.args.machine.now c.args.side c.args.place c.take.new.self c.requires.side c.take.ensures.left c.do_job.new.machine c.in-Job.job got h)
+    c.do_job.ensures.ok

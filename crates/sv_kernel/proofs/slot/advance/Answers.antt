@@ -16,8 +16,8 @@ returns-in-NotBegun-clause-ok c = λ c' h'. let f = h'.fault in let n = h'.going
 pub returns-in-NotBegun-clause-lines : goal.returns-in-NotBegun-clause-lines
 returns-in-NotBegun-clause-lines c = λ c' h'. let f = h'.fault in let n = h'.going in let k = h'.sound in let s = h'.stands in
     let d = c.args.design.now in
-    let none : c.new.result.items ≡ [] = search rules in
-    subst (λ (u : Config). u.records ≡ c'.records ++ records_of c.new.result.items) (sym (begins d c.args.active.now c.args.reactive.now c' n (sym (ap (λ (u : Picture). u.phase) s.picture) ∙ search rules)))
+    let none : c.args.lines.now.items ≡ [] = c.requires.empty in
+    subst (λ (u : Config). u.records ≡ c'.records ++ records_of c.args.lines.now.items) (sym (begins d c.args.active.now c.args.reactive.now c' n (sym (ap (λ (u : Picture). u.phase) s.picture) ∙ search rules)))
     (begin_records d c' ∙ ap (λ (ls : List Line). c'.records ++ records_of ls) (sym none))
 
 pub returns-in_ok-next_time-in-Ended-clause-ok : goal.returns-in_ok-next_time-in-Ended-clause-ok
@@ -35,6 +35,6 @@ returns-in_ok-next_time-in-Ended-clause-lines c = λ c' h'. let f = h'.fault in 
     let going = c.requires.going (search rules) in
     let more : c'.future ≢ [] = λ e. going.1 (ap (λ (u : Picture). u.future) s.picture ∙ e) in
     let unfinished : c'.finishing ≡ false = sym (ap (λ (u : Picture). u.finishing) s.picture) ∙ going.0 in
-    let none : c.new-in-Ended.result.items ≡ [] = search rules in
-    subst (λ (u : Config). u.records ≡ c'.records ++ records_of c.new-in-Ended.result.items) (sym (goes_to_next d c.args.active.now c.args.reactive.now c' n unfinished (sym (ap (λ (u : Picture). u.phase) s.picture) ∙ search rules) more))
+    let none : c.args.lines.now.items ≡ [] = c.requires.empty in
+    subst (λ (u : Config). u.records ≡ c'.records ++ records_of c.args.lines.now.items) (sym (goes_to_next d c.args.active.now c.args.reactive.now c' n unfinished (sym (ap (λ (u : Picture). u.phase) s.picture) ∙ search rules) more))
     (next_records d c' ∙ ap (λ (ls : List Line). c'.records ++ records_of ls) (sym none))

@@ -1,6 +1,6 @@
 use Rattle.std.proofs.Common.{rules, ℕ, ◌≡◌, ◌<◌, ◌++◌, ◌∙◌, List, true, false, nat_lt, ap, sym, subst, arith}
 use Rattle.std.proofs.lemmas.Bool.Decides.{nat_tests}
-use Rattle.std.proofs.lemmas.Result.{on_ok_weaker, IfOk-weaker}
+use Rattle.std.proofs.lemmas.Result.{on_ok_weaker}
 use Rattle.sv_value.specs.Regions.{pickable, is_bare}
 use Rattle.sv_flat.specs.Steps.{Kind, after, front, acting}
 use Rattle.sv_flat.specs.Directed.{place_on}
@@ -18,8 +18,8 @@ none_open n h = grind (arith, nat_tests)
 some_open : (n : ℕ) → 0 < n → nat_lt 0 n ≡ true
 some_open n h = grind (arith, nat_tests)
 
-pub returns-then-pickable-gt0-clause-lines : goal.returns-then-pickable-gt0-clause-lines
-returns-then-pickable-gt0-clause-lines c = λ c' h'. let k = h'.sound in let n = h'.going in let s = h'.stands in
+pub returns-then-count-gt0-clause-lines : goal.returns-then-count-gt0-clause-lines
+returns-then-count-gt0-clause-lines c = λ c' h'. let k = h'.sound in let n = h'.going in let s = h'.stands in
     let d = c.args.design.now in
     let m = c.args.machine.now in
     let some : 0 < pickable (acting_set m) = search rules in
@@ -27,7 +27,7 @@ returns-then-pickable-gt0-clause-lines c = λ c' h'. let k = h'.sound in let n =
     let kind = picks_on c.args.active.now c.args.reactive.now c' (ap (λ x. nat_lt 0 (pickable x)) (sym set) ∙ some_open (pickable (acting_set m)) some) in
     ap (λ (x : Kind). (after d c' x).records) kind
     ∙ pick_records d c' (job_count (front c')) (place_on (acting c') c.args.active.now c.args.reactive.now c')
-    ∙ ap (λ (ls : List Line). c'.records ++ records_of ls) (sym c.new.ensures.items)
+    ∙ ap (λ (ls : List Line). c'.records ++ records_of ls) (sym c.requires.empty)
 
 pub returns-then-is_bare-clause-done : goal.returns-then-is_bare-clause-done
 returns-then-is_bare-clause-done c =
@@ -46,10 +46,10 @@ returns-then-is_bare-clause-lines c =
     let m = c.args.machine.now in
     let none : pickable (acting_set m) ≡ 0 = search rules in
     let bare : is_bare (acting_set m) ≡ true = search rules in
-    IfOk-weaker c.end_slot.result _ _ (λ lines h. λ c' h'.
+    on_ok_weaker c.end_slot.result (λ h. λ c' h'.
     let set = set_is d m c' h'.stands in
     let kind = ends_on c.args.active.now c.args.reactive.now c' (none_open (pickable (front c')) (ap pickable (sym set) ∙ none)) (ap is_bare (sym set) ∙ bare) in
-    subst (λ (x : Kind). (after d c' x).records ≡ c'.records ++ records_of lines.items) (sym kind) (h c' h')) c.end_slot.ensures.lines
+    subst (λ (x : Kind). (after d c' x).records ≡ c'.records ++ records_of c.end_slot.new.lines.items) (sym kind) (h c' h')) c.end_slot.ensures.lines
 
 pub returns-clause-done : goal.returns-clause-done
 returns-clause-done c = λ c' h'. let k = h'.sound in let n = h'.going in let f = h'.fault in let s = h'.stands in
@@ -69,4 +69,4 @@ returns-clause-lines c = λ c' h'. let k = h'.sound in let n = h'.going in let s
     let some : is_bare (acting_set m) ≡ false = search rules in
     let set = set_is d m c' s in
     let kind = moves_on c.args.active.now c.args.reactive.now c' (none_open (pickable (front c')) (ap pickable (sym set) ∙ none)) (ap is_bare (sym set) ∙ some) in
-    ap (λ (x : Kind). (after d c' x).records) kind ∙ move_records d c' ∙ ap (λ (ls : List Line). c'.records ++ records_of ls) (sym c.new-2.ensures.items)
+    ap (λ (x : Kind). (after d c' x).records) kind ∙ move_records d c' ∙ ap (λ (ls : List Line). c'.records ++ records_of ls) (sym c.requires.empty)
