@@ -285,8 +285,3 @@ pub updates_make : (d : Parts) → IsBuilt d → (u : Update) (us : List Update)
     → Makes d m l (updates_written d (u ∷ us))
 updates_make d b u us m n l h k c a =
     subst (λ e. Tracks d l (updates_written d us e)) (sym (update_is d b u c)) (k (written d (target.Object u.target) u.value c) (written_stands d m n (target.Object u.target) u.value h c a))
-
--- the first of a list, and what is left as the code has it
-pub first_of : {A : Type 0} (xs : List A) (x : A) → 0 < length xs → get_or xs 0 x ≡ x → xs ≡ x ∷ take (length xs - 1) (drop 1 xs)
-first_of [] x l e = absurd (omega (arith, l))
-first_of (y ∷ ys) x l e = λ i. e i ∷ sym (take_all (length (y ∷ ys) - 1) ys (omega arith)) i
