@@ -1,12 +1,13 @@
 -- Elaboration, step by step.
-use Rattle.std.proofs.Common.{◌≡◌, ◌∙◌, [], ◌∷◌, map, ap}
+use Rattle.std.proofs.Common.{◌≡◌, ◌∙◌, [], ◌∷◌, map, ap, sym, subst}
+use Rattle.std.specs.Prelude.{Result, Ok, Err, IsErrAnd}
 use Rattle.sv_flat.specs.declared.design.Scale.{Scale}
 use Rattle.sv_names.specs.declared.around.Around as code_around
 use Rattle.sv_names.specs.declared.checked.Checked.{Checked}
 use Rattle.sv_names.specs.declared.refusal.Refusal.{Refusal}
 use Rattle.sv_names.specs.declared.refusal.Refusal.TheVariants.{Rule, Memory}
 use Rattle.sv_names.specs.Checked.{given, ◌▷◌}
-use Rattle.sv_names.specs.Given.{Fails}
+use Rattle.sv_names.specs.Given.{Fails, Gives}
 use Rattle.sv_names.specs.Groups.{Group}
 use Rattle.sv_names.specs.Instances.{nowhere_around, file_around}
 use Rattle.sv_names.specs.Types.{Numbers}
@@ -28,3 +29,8 @@ fails_given h x Memory fails = tt
 pub fails_then : {A B : Type 0} (go : A → Checked B) (x : Checked A) (e : Refusal) → Fails e x → Fails e (x ▷ go)
 fails_then go x (Rule n at) fails = ap (λ y. y ▷ go) fails
 fails_then go x Memory fails = tt
+
+-- what stops for want of memory says nothing
+pub stopped : {A : Type 0} (r : Result A Refusal) (x : Checked A) → IsErrAnd r (λ e. e ≡ Memory) → Gives r x
+stopped (Ok a) x is = absurd is
+stopped (Err e) x is = subst (λ f. Fails f x) (sym is) tt

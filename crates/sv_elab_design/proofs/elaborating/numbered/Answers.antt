@@ -14,7 +14,7 @@ use Rattle.sv_names.specs.Views.{around_in, numbers_in}
 use Rattle.sv_elab_scope.specs.Rows.{group_in}
 use Rattle.sv_elab_walk.specs.Insts.{walked_in}
 use Rattle.sv_elab_design.specs.Elaborating.{finished, numbers_over}
-use Rattle.sv_elab_design.proofs.ElaboratingLaws.{files_seen, fails_given}
+use Rattle.sv_elab_design.proofs.ElaboratingLaws.{files_seen, fails_given, stopped}
 use Rattle.sv_elab_design.proofs.elaborating.numbered.Goals as goal
 
 pub returns-in-Ok : goal.returns-in-Ok
@@ -51,3 +51,6 @@ returns c = λ gs is.
     ∙ ap (λ (ns : Numbers). file_around ns s g) (c.in_ok-numbers.ensures gs is) in
     subst (λ (ar : Around). Fails c.in-Err.e (given (finished s ws n) (given_parts us ar g ws))) files
     (fails_given (finished s ws n) (given_parts us (around_in seen) g ws) c.in-Err.e c.in-Err.ensures)
+
+pub returns-in_err-parts-in-Ok : goal.returns-in_err-parts-in-Ok
+returns-in_err-parts-in-Ok c = λ gs is. stopped c.from_residual-in_err-parts-in-Ok.result _ c.from_residual-in_err-parts-in-Ok.ensures.1
