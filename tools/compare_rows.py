@@ -1,11 +1,11 @@
 #!/usr/bin/env python3
-"""Sees that the program says of the texts of crates/sv_names_rows what was computed of their trees.
+"""Sees whether the program says of the texts of crates/sv_names_rows what was computed of their trees.
 
-    .ci/rows
+    tools/compare_rows.py
 
 There the checker computes from the definitions, of more than a thousand texts, which rule the trees of each break first and where, or what the design of
 the trees prints and how its run ends. Here each text goes through the program, as files a.sv, b.sv, .. in their order, and its last lines have to say the
-same: the rule at its place; or the log and the end of the run, or `not yet` where the design has forms that do not run today.
+same: the rule at its place; or the log and the end of the run, or `not yet` where the design has forms that do not run today. It is no part of the gate.
 """
 import re
 import subprocess
@@ -84,7 +84,7 @@ def main():
                 run += 1
             else:
                 told += 1
-    print(f'.ci/rows: {told} told, {run} run, {not_yet} do not run yet, {wrong} wrong')
+    print(f'tools/compare_rows.py: {told} told, {run} run, {not_yet} do not run yet, {wrong} wrong')
     return 1 if wrong or not told or not run else 0
 
 
