@@ -3,6 +3,7 @@ pub mod ListLaws
 pub mod ReachedLaws
 pub mod ClashLaws
 pub mod StrictLaws
+pub mod MarkLaws
 pub mod ProcessLaws
 pub mod FlatLaws
 pub mod LimitLaws

@@ -1,4 +1,5 @@
 pub mod Views
+pub mod Marks
 pub mod Laws
 pub mod Reaching
 pub mod Processes

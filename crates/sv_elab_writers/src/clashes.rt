@@ -4,8 +4,10 @@ ghost use Rattle.sv_names.specs.Checked as rules;
 ghost use Rattle.sv_names.specs.Checked.{all};
 ghost use Rattle.sv_names.specs.Writers as writers;
 ghost use Rattle.sv_elab_writers.specs.Laws as laws;
+ghost use Rattle.sv_elab_writers.specs.Marks.{HasWrites};
 ghost use Rattle.sv_elab_writers.specs.Views.{writer_in, write_in, initialized_in, Written};
 
+use crate::marks::{Marked, mark_of, marked};
 use crate::writes::Write;
 use crate::{Initialized, Writer};
 use std::alloc::Global;
@@ -154,24 +156,41 @@ fn strict_ones<'a>(
     Ok(strict)
 }
 
+/// The writes that let no other beside them, at the marks of their objects.
+fn strict_marked<'a>(alloc: Global, law: Law, writes: &[Write<'a>]) -> Result<Marked<'a>, NoMemory>
+    ensures { IfOk result (λ m. HasWrites m (flat_map (laws.strict_of law) (map write_in writes.now))) }
+{
+    let strict = strict_ones(alloc, law, writes)?;
+    marked(alloc, strict.as_slice())
+}
+
+/// Whether a write clashes with one of those that are kept.
+fn clashes_marked(law: Law, marked: &Marked, w: Write) -> bool
+    ensures { (ws : List writers.Write) → HasWrites marked.now ws → result ≡ writers.some (laws.clashes law (write_in w.entry)) ws }
+{
+    match marked.get(&mark_of(w.object)) {
+        Some(writes) => has_clash(law, writes.as_slice(), w),
+        None => false,
+    }
+}
+
 /// Whether a write clashes with one of all. One that lets others beside it is compared with those alone that do not.
-#[tactic(auto, using(crate::proofs::StrictLaws::among_strict))]
-fn clashes_among(law: Law, writes: &[Write], strict: &[Write], w: Write) -> bool
-    requires { map write_in strict.now ≡ flat_map (laws.strict_of law) (map write_in writes.now) }
-    ensures { result ≡ writers.some (laws.clashes law (write_in w.entry)) (map write_in writes.now) }
+fn clashes_among(law: Law, all: &Marked, strict: &Marked, w: Write) -> bool
+    ensures { (ws : List writers.Write) → HasWrites all.now ws → HasWrites strict.now (flat_map (laws.strict_of law) ws)
+        → result ≡ writers.some (laws.clashes law (write_in w.entry)) ws }
 {
     if is_strict(law, w.writer) {
-        return has_clash(law, writes, w);
+        return clashes_marked(law, all, w);
     }
-    has_clash(law, strict, w)
+    clashes_marked(law, strict, w)
 }
 
 /// The rule for one write, over all writes and those that let no other beside them.
-fn stands(law: Law, writes: &[Write], strict: &[Write], w: Write) -> Checked<()>
-    requires { map write_in strict.now ≡ flat_map (laws.strict_of law) (map write_in writes.now) }
-    ensures { result ≡ laws.stands law (map write_in writes.now) (write_in w.entry) }
+fn stands(law: Law, all: &Marked, strict: &Marked, w: Write) -> Checked<()>
+    ensures { (ws : List writers.Write) → HasWrites all.now ws → HasWrites strict.now (flat_map (laws.strict_of law) ws)
+        → result ≡ laws.stands law ws (write_in w.entry) }
 {
-    let is_broken = clashes_among(law, writes, strict, w);
+    let is_broken = clashes_among(law, all, strict, w);
     match law {
         Law::Continuous => rule(20, w.at, is_broken),
         Law::Alone => rule(22, w.at, is_broken),
@@ -182,16 +201,17 @@ fn stands(law: Law, writes: &[Write], strict: &[Write], w: Write) -> Checked<()>
 pub(crate) fn all_stand(alloc: Global, law: Law, writes: &[Write]) -> Result<Checked<()>, NoMemory>
     ensures { IfOk result (λ c. c ≡ laws.all_stand law (map write_in writes.now)) }
 {
-    let strict = strict_ones(alloc, law, writes)?;
+    let all = marked(alloc, writes)?;
+    let strict = strict_marked(alloc, law, writes)?;
     let mut guards = Checked::Good(());
     for w in writes {
-        guards = and_guard(guards, stands(law, writes, strict.as_slice(), *w));
+        guards = and_guard(guards, stands(law, &all, &strict, *w));
     }
     Ok(guards)
 }
 
-/// Whether an object is written continuously.
-fn is_written_continuously(object: &[Text], writes: &[Write]) -> bool
+/// Whether an object is written continuously by one of these.
+fn is_continued(object: &[Text], writes: &[Write]) -> bool
     ensures { result ≡ writers.some (laws.continues object.now) (map write_in writes.now) }
 {
     for v in writes {
@@ -202,14 +222,29 @@ fn is_written_continuously(object: &[Text], writes: &[Write]) -> bool
     false
 }
 
-/// No variable with an initializer is written continuously.
-pub(crate) fn none_initialized(writes: &[Write], variables: &[Initialized]) -> Checked<()>
-    ensures { result ≡ all (writers.not_initialized (map write_in writes.now)) (map initialized_in variables.now) }
+/// Whether an object is written continuously.
+fn is_written_continuously(object: &[Text], marked: &Marked) -> bool
+    ensures { (ws : List writers.Write) → HasWrites marked.now ws → result ≡ writers.some (laws.continues object.now) ws }
 {
+    match marked.get(&mark_of(object)) {
+        Some(writes) => is_continued(object, writes.as_slice()),
+        None => false,
+    }
+}
+
+/// No variable with an initializer is written continuously.
+pub(crate) fn none_initialized(
+    alloc: Global,
+    writes: &[Write],
+    variables: &[Initialized],
+) -> Result<Checked<()>, NoMemory>
+    ensures { IfOk result (λ c. c ≡ all (writers.not_initialized (map write_in writes.now)) (map initialized_in variables.now)) }
+{
+    let marked = marked(alloc, writes)?;
     let mut guards = Checked::Good(());
     for one in variables {
-        let is_broken = is_written_continuously(one.object.as_slice(), writes);
+        let is_broken = is_written_continuously(one.object.as_slice(), &marked);
         guards = and_guard(guards, rule(23, one.at, is_broken));
     }
-    guards
+    Ok(guards)
 }

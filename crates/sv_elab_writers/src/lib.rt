@@ -2,13 +2,14 @@
 //! E23, E44.
 //!
 //! - `touch` has what statements do, and who does it; `rows` the table of the subroutines by their paths.
-//! - `writes` has the objects that are written, `reached` the subroutines that a process can call.
+//! - `writes` has the objects that are written, `marks` finds the writes of one; `reached` has the subroutines that a process can call.
 //! - `clashes` has the rules on two writers, `standing` those of a design; `limits` counts what is declared.
 #![tactic(auto)]
 
 mod clashes;
 mod flattened;
 mod limits;
+mod marks;
 mod reached;
 mod rows;
 mod standing;

@@ -160,7 +160,7 @@ fn writers_agree(
 {
     let continuous = all_stand(alloc, Law::Continuous, written)?;
     let alone = all_stand(alloc, Law::Alone, by_procedures)?;
-    let initialized = none_initialized(written, variables);
+    let initialized = none_initialized(alloc, written, variables)?;
     Ok(and_guard(and_guard(continuous, alone), initialized))
 }
 

@@ -9,5 +9,6 @@ pub loop-w-preserved : goal.loop-w-preserved
 loop-w-preserved c =
     one_more (stands c.args.law (map write_in c.args.writes.now)) write_in c.args.writes.now c.loop-w.w-index c.w-item.result c.loop-w.guards
     c.and_guard-guards.result c.loop-w-test.true (sym c.w-item.is)
-    (c.and_guard-guards.ensures ∙ ap (λ r. c.loop-w.guards where_also r) c.stands.ensures)
+    (c.and_guard-guards.ensures ∙ ap (λ r. c.loop-w.guards where_also r)
+    (c.stands.ensures (map write_in c.args.writes.now) c.in_ok-all.ensures c.in_ok-strict.ensures))
     ∙ c.loop-w.invariant

@@ -12,5 +12,5 @@ loop-one-preserved c =
     c.loop-one.guards c.and_guard-guards.result c.loop-one-test.true (sym c.one-item.is)
     (c.and_guard-guards.ensures
     ∙ ap (λ r. c.loop-one.guards where_also r) (c.rule.ensures ∙ ap (rule 23 c.one-item.result.at)
-    (c.is_written_continuously-is_broken.ensures ∙ ap (λ p. some (continues p) (map write_in c.args.writes.now)) c.as_slice.ensures)))
+    (c.is_written_continuously-is_broken.ensures (map write_in c.args.writes.now) c.in_ok-marked.ensures ∙ ap (λ p. some (continues p) (map write_in c.args.writes.now)) c.as_slice.ensures)))
     ∙ c.loop-one.invariant
