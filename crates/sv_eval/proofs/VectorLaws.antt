@@ -1,5 +1,5 @@
 -- Vectors at other widths.
-use Rattle.std.proofs.Common.{◌≡◌, ℕ, zero, suc, ◌*◌, ◌^◌, subst, ◌+◌, ◌-◌, ◌<◌, ◌≤◌, true, List, [], ◌∷◌, ◌++◌, length, take, drop, replicate, refl, sym, ap, ◌∙◌, arith}
+use Rattle.std.proofs.Common.{◌≡◌, ℕ, zero, suc, ◌*◌, ◌^◌, subst, ◌+◌, ◌-◌, ◌<◌, ◌≤◌, Bool, true, List, [], ◌∷◌, ◌++◌, length, take, drop, replicate, refl, sym, ap, ◌∙◌, arith}
 use Rattle.std.proofs.lemmas.List.{take-replicate, take-append-le, length-take, length-append, length-replicate}
 use Rattle.std.proofs.Math.Seq.{take-append-add}
 use Rattle.sv_value.specs.declared.word.Sym.{Sym}
@@ -13,7 +13,7 @@ use Rattle.std.proofs.lemmas.Bool.{cond-true, cond-false, ne_eqb}
 use Rattle.std.proofs.lemmas.Bool.Decides.{nat_tests}
 use Rattle.std.specs.Prelude.{nat_le}
 use Rattle.sv_value.proofs.Laws.{resized_same}
-use Rattle.sv_flat.specs.Eval.{log_from, log_of, int_of}
+use Rattle.sv_flat.specs.Eval.{in_context, log_from, log_of, int_of}
 
 -- copies of a symbol, by its sign
 pub copies_is : (w : ℕ) (s : Sym) → 1 ≤ w → resized w (vector true (s ∷ [])) ≡ replicate w s
@@ -39,6 +39,12 @@ length-extended w s xs = simp (length-take, length-append, length-replicate) (om
 pub resized_extended : (w : ℕ) (s : Sym) (xs : List Sym) → resized w (unsigned (extended w s xs)) ≡ extended w s xs
 resized_extended w s xs =
     ap (λ (n : ℕ). resized n (unsigned (extended w s xs))) (sym (length-extended w s xs)) ∙ resized_same (unsigned (extended w s xs))
+
+-- so it does in a context of its own
+pub own_context : (v : Vector) (w : ℕ) (s : Bool) → length v.symbols ≡ w → v.signed ≡ s → v ≡ in_context w s v
+own_context v w s width sign =
+    ap (λ (t : Bool). vector t v.symbols) sign ∙ sym (ap (λ (xs : List Sym). vector s xs) (resized_same (vector s v.symbols)))
+    ∙ ap (λ (n : ℕ). vector s (resized n (vector s v.symbols))) width
 
 -- ---- `$clog2`
 

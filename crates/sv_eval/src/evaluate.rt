@@ -111,7 +111,8 @@ pub fn value<V: Values>(alloc: Global, values: &V, expr: &Expr) -> Result<Val, S
     }
 }
 
-/// The value of an expression in a context.
+/// The value of an expression in a context. The forms that come most often stand here, and the others apart: a call clears the room
+/// for what all forms that stand in one function keep.
 #[cycle(evaluate)]
 pub fn value_in<V: Values>(
     alloc: Global,
@@ -123,9 +124,34 @@ pub fn value_in<V: Values>(
 {
     match &*expr.form {
         ExprForm::Literal { value, fill } => literal(context, *value, *fill),
+        ExprForm::Object { object, .. } => read(context, values.object(alloc, *object, 0)),
+        ExprForm::Unary { op, operand } => {
+            if is_in_context(*op) {
+                unary_inside(*op, value_in(alloc, values, operand, context))
+            } else {
+                unary_alone(*op, context, value(alloc, values, operand))
+            }
+        }
+        ExprForm::Binary { op, left, right } => {
+            binary_value(alloc, values, context, operands_of(*op), *op, left, right)
+        }
+        _ => value_apart(alloc, values, expr, context),
+    }
+}
+
+/// The same, for all other forms.
+#[cycle(evaluate)]
+fn value_apart<V: Values>(
+    alloc: Global,
+    values: &V,
+    expr: &Expr,
+    context: Context,
+) -> Result<Val, Stopped>
+    ensures { Evaluates result (eval.eval expr.now context.width context.signed (V.view values.now)) }
+{
+    match &*expr.form {
         ExprForm::Text { bytes } => copied(alloc, bytes.as_slice()),
         ExprForm::Handle { key } => Ok(Val::Object(*key)),
-        ExprForm::Object { object, .. } => read(context, values.object(alloc, *object, 0)),
         ExprForm::Local { up, place, .. } => read(
             context,
             values.variable(alloc, *up, u64::from(*place)),
@@ -190,16 +216,6 @@ pub fn value_in<V: Values>(
                 Err(e) => Err(e),
             }
         }
-        ExprForm::Unary { op, operand } => {
-            if is_in_context(*op) {
-                unary_inside(*op, value_in(alloc, values, operand, context))
-            } else {
-                unary_alone(*op, context, value(alloc, values, operand))
-            }
-        }
-        ExprForm::Binary { op, left, right } => {
-            binary_value(alloc, values, context, operands_of(*op), *op, left, right)
-        }
         ExprForm::Choose { condition, yes, no } => match value(alloc, values, condition) {
             Ok(x) => chosen(alloc, values, context, truth_of(&x), yes, no),
             Err(e) => Err(e),
@@ -239,7 +255,11 @@ pub fn value_in<V: Values>(
                 value(alloc, values, operand),
             )
         }
-        ExprForm::Field { .. }
+        ExprForm::Literal { .. }
+        | ExprForm::Object { .. }
+        | ExprForm::Unary { .. }
+        | ExprForm::Binary { .. }
+        | ExprForm::Field { .. }
         | ExprForm::FieldElement { .. }
         | ExprForm::Item { .. }
         | ExprForm::Size { .. }

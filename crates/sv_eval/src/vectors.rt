@@ -11,13 +11,17 @@ use sv_value::{Bits, Integer, Integral, NoMemory, Sym, WIDEST, Word};
 // ---- contexts
 
 /// A vector in a context. Memory is wanting for widths that no vector has.
+#[tactic(auto, using(crate::proofs::VectorLaws::own_context))]
 pub fn within(context: Context, value: Bits) -> Result<Bits, NoMemory>
     ensures { IfOk result (λ x. x ≡ eval.in_context context.width context.signed value) }
 {
+    let own = value.width();
+    if own == context.width && value.signed() == context.signed {
+        return Ok(value);
+    }
     if context.width < 1 || WIDEST < context.width {
         return Err(NoMemory::Memory);
     }
-    let own = value.width();
     Ok(
         value
             .resize(own, context.signed)

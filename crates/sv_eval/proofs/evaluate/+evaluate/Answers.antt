@@ -9,8 +9,8 @@ value_in-binary_value-requires g t c κs within =
     let size : expr_size c.args.expr.now ≡ expr_size c.in-Binary.left + expr_size c.in-Binary.right + 1 = ap expr_size is in
     (omega (arith, c.decreases, size), search rules)
 
-pub value_in-chosen-requires : goal.value_in-chosen-requires
-value_in-chosen-requires g t c κs within =
+pub value_apart-chosen-requires : goal.value_apart-chosen-requires
+value_apart-chosen-requires g t c κs within =
     let is = sym c.expr.view_is ∙ ap of_form (sym c.deref.ensures ∙ c.in-Choose.is) in
     let size : expr_size c.args.expr.now ≡ expr_size c.in-Choose.condition + expr_size c.in-Choose.yes + expr_size c.in-Choose.no + 1 = ap expr_size is in
     (omega (arith, c.decreases, size), search rules)
