@@ -13,7 +13,7 @@ use crate::line::Line;
 use crate::machine::Machine;
 use sv_assign::Seen;
 use sv_built::Design;
-use sv_process::{Effect, step};
+use sv_process::{Effect, Stepped, Went, step};
 use sv_value::{NoMemory, Place, ProcessId};
 
 /// Makes the next step of the running process. What it prints comes behind the lines.
@@ -37,13 +37,22 @@ pub fn run_statement(
         time: machine.time,
         unit: design.scale().unit_ticks(),
     };
-    let stepped = step(
+    let mut stepped = Stepped {
+        went: Went::Held,
+        at: Place {
+            file: 0,
+            line: 0,
+            col: 0,
+        },
+    };
+    step(
         &mut machine.processes[process.0 as usize],
         machine.alloc,
         design,
         &seen,
         &mut effects,
         &mut machine.spare,
+        &mut stepped,
     )?;
     effects.reverse();
     let done = occur_all(machine, design, process, stepped.at, &mut effects, lines);

@@ -18,6 +18,7 @@ use crate::wakes::make_ready;
 use std::alloc::Global;
 use sv_assign::{Before, Seen, overwrite};
 use sv_built::Design;
+use sv_process::Spare;
 use sv_sched::Regions;
 use sv_sense::Sense;
 use sv_store::{Overwritten, Store};
@@ -32,6 +33,7 @@ fn wake(
     overwritten: &Overwritten,
     sense: &mut Sense,
     regions: &mut Regions,
+    spare: &mut Spare,
 ) -> Result<(), NoMemory>
     requires built { IsBuilt design.now }
     requires covers { Covers design.now sense.old }
@@ -40,7 +42,7 @@ fn wake(
     ensures { OnOk result (Wakes design.now (view_before overwritten.now store.now time (unit_ticks design.now.scale))
         (view_in store.now time (unit_ticks design.now.scale)) sense.old regions.old sense.new regions.new) }
 {
-    let mut woken = Vec::new(alloc);
+    let mut woken = spare.woken(alloc);
     let unit = design.scale().unit_ticks();
     let seen = Seen { store, time, unit };
     let before = Before { seen, overwritten };
@@ -52,7 +54,9 @@ fn wake(
         &seen,
         &mut woken,
     )?;
-    make_ready(design, &woken, regions)
+    let done = make_ready(design, &woken, regions);
+    spare.keep_woken(woken);
+    done
 }
 
 /// A value is written, and those go on whom the change wakes.
@@ -79,6 +83,7 @@ pub fn write(
             &overwritten,
             &mut machine.sense,
             &mut machine.regions,
+            &mut machine.spare,
         ),
     }
 }

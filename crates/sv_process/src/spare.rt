@@ -1,11 +1,11 @@
-// Lists of updates and effects that were done, whose memory serves steps to come.
+// Lists that were done with, whose memory serves steps to come.
 ghost use Rattle.std.specs.Prelude.{◌≡◌, [], IfOk};
 
 use crate::Effect;
 use std::alloc::Global;
 use std::marker::Model;
 use std::mem::replace;
-use sv_value::{Job, NoMemory, Update};
+use sv_value::{Job, NoMemory, ProcessId, Update};
 
 /// Empty lists, with the memory that they had. They are seen as nothing: no step depends on them.
 #[derive(Drop)]
@@ -14,6 +14,8 @@ pub struct Spare {
     lists: Vec<Vec<Update>>,
     /// Of effects.
     effects: Vec<Effect>,
+    /// Of processes that a change wakes.
+    woken: Vec<ProcessId>,
 }
 
 impl Model for Spare {
@@ -28,7 +30,22 @@ impl Spare {
         Spare {
             lists: Vec::new(alloc),
             effects: Vec::new(alloc),
+            woken: Vec::new(alloc),
         }
+    }
+
+    /// An empty list of processes, with the memory of the one that was kept.
+    pub fn woken(&mut self, alloc: Global) -> Vec<ProcessId>
+        ensures { result.items ≡ [] }
+    {
+        let mut woken = replace(&mut self.woken, Vec::new(alloc));
+        woken.clear();
+        woken
+    }
+
+    /// Keeps the memory of a list of processes.
+    pub fn keep_woken(&mut self, woken: Vec<ProcessId>) {
+        self.woken = woken;
     }
 
     /// An empty list of effects, with the memory of the one that was kept.

@@ -42,7 +42,7 @@ const NOWHERE: Place = Place {
     col: 0,
 };
 
-/// What a step answers.
+/// What a step tells beside its effects.
 #[derive(Clone, Copy, Debug, PartialEq, Eq)]
 pub struct Stepped {
     /// Whether it left something else to run.
@@ -313,21 +313,23 @@ fn step_stmt<V: Values>(
     spare: &mut Spare,
     at: Position,
     scope: Option<Name>,
-) -> Result<Stepped, NoMemory>
+    stepped: &mut Stepped,
+) -> Result<(), NoMemory>
     requires empty { out.old.items ≡ [] }
     requires built { IsBuilt design.now }
     requires comes { IsFirst design.now (frame.Rest at scope) (todos_of design.now frames.old) }
-    ensures does { IfOk result (λ s. (look : Looks) (p : ProcessId) (next : Name) (handed : Option Message)
+    ensures does { OnOk result ((look : Looks) (p : ProcessId) (next : Name) (handed : Option Message)
         → Sees design.now look frames.old (V.view values.now)
-        → run_first design.now look p next handed (todos_of design.now frames.old) ≡ effects_of design.now s.went frames.new out.new.items) }
-    ensures at { IfOk result (λ s. s.at ≡ unwrap_or (place_of_step (todos_of design.now frames.old)) no_place) }
-    ensures held { IfOk result (λ s. s.went ≡ Held → frames.new ≡ frames.old) }
+        → run_first design.now look p next handed (todos_of design.now frames.old) ≡ effects_of design.now stepped.new.went frames.new out.new.items) }
+    ensures at { OnOk result (stepped.new.at ≡ unwrap_or (place_of_step (todos_of design.now frames.old)) no_place) }
+    ensures held { OnOk result (stepped.new.went ≡ Held → frames.new ≡ frames.old) }
 {
     match stmt_of(design, at) {
         Some(stmt) => {
             let ran = run_form(frames, alloc, design, values, out, spare, at, stmt, scope);
             let went = went_of(out, ran)?;
-            Ok(Stepped { went, at: stmt.at })
+            *stepped = Stepped { went, at: stmt.at };
+            Ok(())
         }
         None => Err(NoMemory::Memory),
     }
@@ -342,21 +344,23 @@ fn step_loop<V: Values>(
     out: &mut Vec<Effect>,
     at: Position,
     scope: Option<Name>,
-) -> Result<Stepped, NoMemory>
+    stepped: &mut Stepped,
+) -> Result<(), NoMemory>
     requires empty { out.old.items ≡ [] }
     requires built { IsBuilt design.now }
     requires comes { IsFirst design.now (frame.Loop at scope) (todos_of design.now frames.old) }
-    ensures does { IfOk result (λ s. (look : Looks) (p : ProcessId) (next : Name) (handed : Option Message)
+    ensures does { OnOk result ((look : Looks) (p : ProcessId) (next : Name) (handed : Option Message)
         → Sees design.now look frames.old (V.view values.now)
-        → run_first design.now look p next handed (todos_of design.now frames.old) ≡ effects_of design.now s.went frames.new out.new.items) }
-    ensures at { IfOk result (λ s. s.at ≡ unwrap_or (place_of_step (todos_of design.now frames.old)) no_place) }
-    ensures held { IfOk result (λ s. s.went ≡ Held → frames.new ≡ frames.old) }
+        → run_first design.now look p next handed (todos_of design.now frames.old) ≡ effects_of design.now stepped.new.went frames.new out.new.items) }
+    ensures at { OnOk result (stepped.new.at ≡ unwrap_or (place_of_step (todos_of design.now frames.old)) no_place) }
+    ensures held { OnOk result (stepped.new.went ≡ Held → frames.new ≡ frames.old) }
 {
     match stmt_of(design, at) {
         Some(stmt) => {
             let ran = run_loop(frames, alloc, design, values, out, at, stmt, scope);
             let went = went_of(out, ran)?;
-            Ok(Stepped { went, at: stmt.at })
+            *stepped = Stepped { went, at: stmt.at };
+            Ok(())
         }
         None => Err(NoMemory::Memory),
     }
@@ -370,22 +374,24 @@ fn step_turns(
     at: Position,
     left: u64,
     scope: Option<Name>,
-) -> Result<Stepped, NoMemory>
+    stepped: &mut Stepped,
+) -> Result<(), NoMemory>
     requires empty { out.old.items ≡ [] }
     requires comes { IsFirst design.now (frame.Turns at left scope) (todos_of design.now frames.old) }
-    ensures does { IfOk result (λ s. (look : Looks) (p : ProcessId) (next : Name) (handed : Option Message)
-        → run_first design.now look p next handed (todos_of design.now frames.old) ≡ effects_of design.now s.went frames.new out.new.items) }
-    ensures at { IfOk result (λ s. s.at ≡ unwrap_or (place_of_step (todos_of design.now frames.old)) no_place) }
-    ensures on { IfOk result (λ s. s.went ≡ On) }
+    ensures does { OnOk result ((look : Looks) (p : ProcessId) (next : Name) (handed : Option Message)
+        → run_first design.now look p next handed (todos_of design.now frames.old) ≡ effects_of design.now stepped.new.went frames.new out.new.items) }
+    ensures at { OnOk result (stepped.new.at ≡ unwrap_or (place_of_step (todos_of design.now frames.old)) no_place) }
+    ensures on { OnOk result (stepped.new.went ≡ On) }
 {
     match stmt_of(design, at) {
         Some(stmt) => match &stmt.form {
             Form::Repeat { count, body } => {
                 run_turns(frames, design, out, at, stmt, count, *body, left, scope)?;
-                Ok(Stepped {
+                *stepped = Stepped {
                     went: Went::On,
                     at: stmt.at,
-                })
+                };
+                Ok(())
             }
             _ => Err(NoMemory::Memory),
         },
@@ -403,15 +409,16 @@ fn step_put<V: Values>(
     at: Position,
     value: Val,
     scope: Option<Name>,
-) -> Result<Stepped, NoMemory>
+    stepped: &mut Stepped,
+) -> Result<(), NoMemory>
     requires empty { out.old.items ≡ [] }
     requires built { IsBuilt design.now }
     requires comes { IsFirst design.now (frame.Put at value scope) (todos_of design.now frames.old) }
-    ensures does { IfOk result (λ s. (look : Looks) (p : ProcessId) (next : Name) (handed : Option Message)
+    ensures does { OnOk result ((look : Looks) (p : ProcessId) (next : Name) (handed : Option Message)
         → Sees design.now look frames.old (V.view values.now)
-        → run_first design.now look p next handed (todos_of design.now frames.old) ≡ effects_of design.now s.went frames.new out.new.items) }
-    ensures at { IfOk result (λ s. s.at ≡ unwrap_or (place_of_step (todos_of design.now frames.old)) no_place) }
-    ensures held { IfOk result (λ s. s.went ≡ Held → frames.new ≡ frames.old) }
+        → run_first design.now look p next handed (todos_of design.now frames.old) ≡ effects_of design.now stepped.new.went frames.new out.new.items) }
+    ensures at { OnOk result (stepped.new.at ≡ unwrap_or (place_of_step (todos_of design.now frames.old)) no_place) }
+    ensures held { OnOk result (stepped.new.went ≡ Held → frames.new ≡ frames.old) }
 {
     match stmt_of(design, at) {
         Some(stmt) => match &stmt.form {
@@ -419,7 +426,8 @@ fn step_put<V: Values>(
                 let targets = targets.as_slice();
                 let ran = run_put(frames, alloc, design, values, out, targets, value);
                 let went = went_of(out, ran)?;
-                Ok(Stepped { went, at: stmt.at })
+                *stepped = Stepped { went, at: stmt.at };
+                Ok(())
             }
             _ => Err(NoMemory::Memory),
         },
@@ -430,16 +438,17 @@ fn step_put<V: Values>(
 // ---- the step
 
 /// The step of a process of which nothing is left.
-fn step_over(out: &mut Vec<Effect>) -> Result<Stepped, NoMemory>
+fn step_over(out: &mut Vec<Effect>, stepped: &mut Stepped) -> Result<(), NoMemory>
     requires { out.old.items ≡ [] }
-    ensures stepped { IfOk result (λ s. s ≡ record { went = Held; at = no_place }) }
+    ensures stepped { OnOk result (stepped.new ≡ record { went = Held; at = no_place }) }
     ensures out { OnOk result (out.new.items ≡ End ∷ []) }
 {
     put(out, Effect::End)?;
-    Ok(Stepped {
+    *stepped = Stepped {
         went: Went::Held,
         at: NOWHERE,
-    })
+    };
+    Ok(())
 }
 
 /// The next step of a process: what it does, in order, and what it leaves to run.
@@ -452,33 +461,38 @@ pub fn step<V: Values>(
     values: &V,
     out: &mut Vec<Effect>,
     spare: &mut Spare,
-) -> Result<Stepped, NoMemory>
+    stepped: &mut Stepped,
+) -> Result<(), NoMemory>
     requires built { IsBuilt design.now }
     requires empty { out.old.items ≡ [] }
-    ensures does { IfOk result (λ s. (look : Looks) (p : ProcessId) (q : ProcessState) → Sees design.now look frames.old (V.view values.now)
-        → q.rest ≡ todos_of design.now frames.old → micro design.now look p q ≡ effects_of design.now s.went frames.new out.new.items) }
-    ensures at { IfOk result (λ s. s.at ≡ unwrap_or (place_of_step (todos_of design.now frames.old)) no_place) }
-    ensures held { IfOk result (λ s. s.went ≡ Held → todos_of design.now frames.new ≡ todos_of design.now frames.old) }
+    ensures does { OnOk result ((look : Looks) (p : ProcessId) (q : ProcessState) → Sees design.now look frames.old (V.view values.now)
+        → q.rest ≡ todos_of design.now frames.old → micro design.now look p q ≡ effects_of design.now stepped.new.went frames.new out.new.items) }
+    ensures at { OnOk result (stepped.new.at ≡ unwrap_or (place_of_step (todos_of design.now frames.old)) no_place) }
+    ensures held { OnOk result (stepped.new.went ≡ Held → todos_of design.now frames.new ≡ todos_of design.now frames.old) }
 {
     frames.settle(design);
     match frames.first() {
-        None => step_over(out),
+        None => step_over(out, stepped),
         Some(Frame::Rest { at, scope }) => {
             let (at, scope) = (*at, *scope);
-            step_stmt(frames, alloc, design, values, out, spare, at, scope)
+            step_stmt(
+                frames, alloc, design, values, out, spare, at, scope, stepped,
+            )
         }
         Some(Frame::Loop { at, scope }) => {
             let (at, scope) = (*at, *scope);
-            step_loop(frames, alloc, design, values, out, at, scope)
+            step_loop(frames, alloc, design, values, out, at, scope, stepped)
         }
         Some(Frame::Turns { at, left, scope }) => {
             let (at, left, scope) = (*at, *left, *scope);
-            step_turns(frames, design, out, at, left, scope)
+            step_turns(frames, design, out, at, left, scope, stepped)
         }
         Some(Frame::Put { at, value, scope }) => {
             let (at, scope) = (*at, *scope);
             let value = value.copy(alloc)?;
-            step_put(frames, alloc, design, values, out, at, value, scope)
+            step_put(
+                frames, alloc, design, values, out, at, value, scope, stepped,
+            )
         }
     }
 }

@@ -30,12 +30,12 @@ occur_all-done-requires-clause-at c =
     let none = c.index_mut.result.now in
     let is : none ≡ get_or m.processes.items p.0 none = search rules in
     let u = c.unit_ticks.ensures ∙ ap unit_ticks c.scale.ensures in
-    let h : TookStep d p m n c.in_ok-stepped.stepped (get_or m.processes.items p.0 none) c.step.new.frames c.step.new.out.items =
-    took_step d p m n c.in_ok-stepped.stepped c.step.new.frames c.step.new.out.items none (has_frames d m c.requires.at p c.requires.running) refl (search rules)
-    (λ look q s e f. c.in_ok-stepped.ensures.does look q s (ap (λ (fs : List Frame). look (scope_of_step (todos_of d fs))) is ∙ e ∙ ap (view_in m.store m.time) (sym u)) (f ∙ ap (todos_of d) (sym is)))
-    (c.in_ok-stepped.ensures.at ∙ ap (λ (fs : List Frame). unwrap_or (place_of_step (todos_of d fs)) no_place) is)
-    (λ e. c.in_ok-stepped.ensures.held e ∙ ap (todos_of d) is) in
-    step_at d c.requires.built p m n c.requires.running c.in_ok-stepped.stepped (get_or m.processes.items p.0 none) c.step.new.frames c.step.new.out.items h c.requires.at
+    let h : TookStep d p m n c.step.new.stepped (get_or m.processes.items p.0 none) c.step.new.frames c.step.new.out.items =
+    took_step d p m n c.step.new.stepped c.step.new.frames c.step.new.out.items none (has_frames d m c.requires.at p c.requires.running) refl (search rules)
+    (λ look q s e f. c.in_ok-step.ensures.does look q s (ap (λ (fs : List Frame). look (scope_of_step (todos_of d fs))) is ∙ e ∙ ap (view_in m.store m.time) (sym u)) (f ∙ ap (todos_of d) (sym is)))
+    (c.in_ok-step.ensures.at ∙ ap (λ (fs : List Frame). unwrap_or (place_of_step (todos_of d fs)) no_place) is)
+    (λ e. c.in_ok-step.ensures.held e ∙ ap (todos_of d) is) in
+    step_at d c.requires.built p m n c.requires.running c.step.new.stepped (get_or m.processes.items p.0 none) c.step.new.frames c.step.new.out.items h c.requires.at
 
 pub occur_all-done-requires-clause-plain : goal.occur_all-done-requires-clause-plain
 occur_all-done-requires-clause-plain c =
@@ -46,13 +46,13 @@ occur_all-done-requires-clause-plain c =
     let none = c.index_mut.result.now in
     let is : none ≡ get_or m.processes.items p.0 none = search rules in
     let u = c.unit_ticks.ensures ∙ ap unit_ticks c.scale.ensures in
-    let h : TookStep d p m n c.in_ok-stepped.stepped (get_or m.processes.items p.0 none) c.step.new.frames c.step.new.out.items =
-    took_step d p m n c.in_ok-stepped.stepped c.step.new.frames c.step.new.out.items none (has_frames d m c.requires.at p c.requires.running) refl (search rules)
-    (λ look q s e f. c.in_ok-stepped.ensures.does look q s (ap (λ (fs : List Frame). look (scope_of_step (todos_of d fs))) is ∙ e ∙ ap (view_in m.store m.time) (sym u)) (f ∙ ap (todos_of d) (sym is)))
-    (c.in_ok-stepped.ensures.at ∙ ap (λ (fs : List Frame). unwrap_or (place_of_step (todos_of d fs)) no_place) is)
-    (λ e. c.in_ok-stepped.ensures.held e ∙ ap (todos_of d) is) in
+    let h : TookStep d p m n c.step.new.stepped (get_or m.processes.items p.0 none) c.step.new.frames c.step.new.out.items =
+    took_step d p m n c.step.new.stepped c.step.new.frames c.step.new.out.items none (has_frames d m c.requires.at p c.requires.running) refl (search rules)
+    (λ look q s e f. c.in_ok-step.ensures.does look q s (ap (λ (fs : List Frame). look (scope_of_step (todos_of d fs))) is ∙ e ∙ ap (view_in m.store m.time) (sym u)) (f ∙ ap (todos_of d) (sym is)))
+    (c.in_ok-step.ensures.at ∙ ap (λ (fs : List Frame). unwrap_or (place_of_step (todos_of d fs)) no_place) is)
+    (λ e. c.in_ok-step.ensures.held e ∙ ap (todos_of d) is) in
     subst (λ (es : List Own_effect). AllByRecursion IsPlainEffect (effects_in d es)) (sym (ap (reverse {A = Own_effect}) c.reverse.ensures.items ∙ reverse_twice c.step.new.out.items))
-    (step_plain d c.requires.built p m n c.requires.running c.in_ok-stepped.stepped (get_or m.processes.items p.0 none) c.step.new.frames c.step.new.out.items h c.requires.at)
+    (step_plain d c.requires.built p m n c.requires.running c.step.new.stepped (get_or m.processes.items p.0 none) c.step.new.frames c.step.new.out.items h c.requires.at)
 
 pub returns-clause-ok : goal.returns-clause-ok
 returns-clause-ok c =
@@ -63,15 +63,15 @@ returns-clause-ok c =
     let none = c.index_mut.result.now in
     let is : none ≡ get_or m.processes.items p.0 none = search rules in
     let u = c.unit_ticks.ensures ∙ ap unit_ticks c.scale.ensures in
-    let h : TookStep d p m n c.in_ok-stepped.stepped (get_or m.processes.items p.0 none) c.step.new.frames c.step.new.out.items =
-    took_step d p m n c.in_ok-stepped.stepped c.step.new.frames c.step.new.out.items none (has_frames d m c.requires.at p c.requires.running) refl (search rules)
-    (λ look q s e f. c.in_ok-stepped.ensures.does look q s (ap (λ (fs : List Frame). look (scope_of_step (todos_of d fs))) is ∙ e ∙ ap (view_in m.store m.time) (sym u)) (f ∙ ap (todos_of d) (sym is)))
-    (c.in_ok-stepped.ensures.at ∙ ap (λ (fs : List Frame). unwrap_or (place_of_step (todos_of d fs)) no_place) is)
-    (λ e. c.in_ok-stepped.ensures.held e ∙ ap (todos_of d) is) in
+    let h : TookStep d p m n c.step.new.stepped (get_or m.processes.items p.0 none) c.step.new.frames c.step.new.out.items =
+    took_step d p m n c.step.new.stepped c.step.new.frames c.step.new.out.items none (has_frames d m c.requires.at p c.requires.running) refl (search rules)
+    (λ look q s e f. c.in_ok-step.ensures.does look q s (ap (λ (fs : List Frame). look (scope_of_step (todos_of d fs))) is ∙ e ∙ ap (view_in m.store m.time) (sym u)) (f ∙ ap (todos_of d) (sym is)))
+    (c.in_ok-step.ensures.at ∙ ap (λ (fs : List Frame). unwrap_or (place_of_step (todos_of d fs)) no_place) is)
+    (λ e. c.in_ok-step.ensures.held e ∙ ap (todos_of d) is) in
     let l = c.occur_all-done.new.machine in
-    let at = c.in_ok-stepped.stepped.at in
+    let at = c.step.new.stepped.at in
     ok_given c.occur_all-done.result _ _
-    (λ k. (step_makes d c.requires.built p m n c.requires.running c.in_ok-stepped.stepped (get_or m.processes.items p.0 none) c.step.new.frames c.step.new.out.items h l c.args.lines.now.items c.occur_all-done.new.lines.items
+    (λ k. (step_makes d c.requires.built p m n c.requires.running c.step.new.stepped (get_or m.processes.items p.0 none) c.step.new.frames c.step.new.out.items h l c.args.lines.now.items c.occur_all-done.new.lines.items
     (subst (λ (es : List Own_effect). Does d n l (all_occurred d at p (effects_in d es)) c.args.lines.now.items c.occur_all-done.new.lines.items) (ap (reverse {A = Own_effect}) c.reverse.ensures.items ∙ reverse_twice c.step.new.out.items) k)).makes)
     c.occur_all-done.ensures.ok
 
@@ -84,14 +84,14 @@ returns-clause-lines c =
     let none = c.index_mut.result.now in
     let is : none ≡ get_or m.processes.items p.0 none = search rules in
     let u = c.unit_ticks.ensures ∙ ap unit_ticks c.scale.ensures in
-    let h : TookStep d p m n c.in_ok-stepped.stepped (get_or m.processes.items p.0 none) c.step.new.frames c.step.new.out.items =
-    took_step d p m n c.in_ok-stepped.stepped c.step.new.frames c.step.new.out.items none (has_frames d m c.requires.at p c.requires.running) refl (search rules)
-    (λ look q s e f. c.in_ok-stepped.ensures.does look q s (ap (λ (fs : List Frame). look (scope_of_step (todos_of d fs))) is ∙ e ∙ ap (view_in m.store m.time) (sym u)) (f ∙ ap (todos_of d) (sym is)))
-    (c.in_ok-stepped.ensures.at ∙ ap (λ (fs : List Frame). unwrap_or (place_of_step (todos_of d fs)) no_place) is)
-    (λ e. c.in_ok-stepped.ensures.held e ∙ ap (todos_of d) is) in
+    let h : TookStep d p m n c.step.new.stepped (get_or m.processes.items p.0 none) c.step.new.frames c.step.new.out.items =
+    took_step d p m n c.step.new.stepped c.step.new.frames c.step.new.out.items none (has_frames d m c.requires.at p c.requires.running) refl (search rules)
+    (λ look q s e f. c.in_ok-step.ensures.does look q s (ap (λ (fs : List Frame). look (scope_of_step (todos_of d fs))) is ∙ e ∙ ap (view_in m.store m.time) (sym u)) (f ∙ ap (todos_of d) (sym is)))
+    (c.in_ok-step.ensures.at ∙ ap (λ (fs : List Frame). unwrap_or (place_of_step (todos_of d fs)) no_place) is)
+    (λ e. c.in_ok-step.ensures.held e ∙ ap (todos_of d) is) in
     let l = c.occur_all-done.new.machine in
-    let at = c.in_ok-stepped.stepped.at in
+    let at = c.step.new.stepped.at in
     ok_given c.occur_all-done.result _ _
-    (λ k. (step_makes d c.requires.built p m n c.requires.running c.in_ok-stepped.stepped (get_or m.processes.items p.0 none) c.step.new.frames c.step.new.out.items h l c.args.lines.now.items c.occur_all-done.new.lines.items
+    (λ k. (step_makes d c.requires.built p m n c.requires.running c.step.new.stepped (get_or m.processes.items p.0 none) c.step.new.frames c.step.new.out.items h l c.args.lines.now.items c.occur_all-done.new.lines.items
     (subst (λ (es : List Own_effect). Does d n l (all_occurred d at p (effects_in d es)) c.args.lines.now.items c.occur_all-done.new.lines.items) (ap (reverse {A = Own_effect}) c.reverse.ensures.items ∙ reverse_twice c.step.new.out.items) k)).adds)
     c.occur_all-done.ensures.ok

@@ -11,8 +11,8 @@ use Rattle.sv_machine.specs.Wakes.{IsKnown, all_ready}
 use Rattle.sv_machine.proofs.WriteLaws.{woken_known, woken_weight}
 use Rattle.sv_machine.proofs.writes.wake.Goals as goal
 
-pub make_ready-requires-clause-known : goal.make_ready-requires-clause-known
-make_ready-requires-clause-known c =
+pub make_ready-done-requires-clause-known : goal.make_ready-done-requires-clause-known
+make_ready-done-requires-clause-known c =
     let d = c.args.design.now in
     let u = c.unit_ticks-unit.result in
     let t : Option Wait → Bool = fires_at d (view_before c.args.overwritten.now c.args.store.now c.args.time u) (view_in c.args.store.now c.args.time u) in
@@ -21,8 +21,8 @@ make_ready-requires-clause-known c =
     subst (λ (ps : List ProcessId). AllByRecursion (IsKnown (length d.processes)) ps) (sym e)
     (woken_known t 0 (length d.processes) c.args.sense.now.waits (omega (arith, n)))
 
-pub make_ready-requires-clause-weights : goal.make_ready-requires-clause-weights
-make_ready-requires-clause-weights c = λ w.
+pub make_ready-done-requires-clause-weights : goal.make_ready-done-requires-clause-weights
+make_ready-done-requires-clause-weights c = λ w.
     let d = c.args.design.now in
     let u = c.unit_ticks-unit.result in
     let t : Option Wait → Bool = fires_at d (view_before c.args.overwritten.now c.args.store.now c.args.time u) (view_in c.args.store.now c.args.time u) in
@@ -39,8 +39,8 @@ returns c =
     let is = c.unit_ticks-unit.ensures ∙ ap unit_ticks c.scale.ensures in
     let t = v c.unit_ticks-unit.result in
     let e : c.deref.result.now ≡ woken_from t 0 c.args.sense.now.waits = c.deref.ensures.value ∙ c.in_ok-fire.ensures.woken in
-    ok_given c.make_ready.result _ _ (λ h. record {
+    ok_given c.make_ready-done.result _ _ (λ h. record {
       waits = c.in_ok-fire.ensures.left ∙ ap (λ u. waits_after (v u) c.args.sense.now.waits) is;
       regions = h ∙ ap (λ (ps : List ProcessId). all_ready d ps c.args.regions.now) (e ∙ ap (λ u. woken_from (v u) 0 c.args.sense.now.waits) is);
       covers = c.in_ok-fire.ensures.covers;
-    }) c.make_ready.ensures
+    }) c.make_ready-done.ensures
