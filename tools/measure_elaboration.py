@@ -11,7 +11,8 @@
 - items: items of one enumeration;
 - classes: a line of classes, of which each extends the one before;
 - statements: statements of one block;
-- empty: `;` as items of one module.
+- empty: `;` as items of one module;
+- real: modules of ordinary items, each of which is a root, of so many bytes. Beside it the same file with a `)` behind it, which is read and refused there.
 
 Prints the processor seconds of the best of RUNS calls (3 where no number is given), and the greatest memory of these calls, for sizes of which each is
 twice the one before. It is no part of the gate.
@@ -67,8 +68,57 @@ def empty(count):
     return 'module top;' + ';' * count + 'endmodule\n'
 
 
+def real(size):
+    units, written = [], 0
+    while written < size:
+        units.append(ORDINARY.replace('NUMBER', str(len(units))))
+        written += len(units[-1])
+    return ''.join(units)
+
+
+ORDINARY = '''// An adder behind a register.
+module unitNUMBER;
+  localparam int WIDTH = 8;
+  typedef enum logic [1:0] { IDLE, LOAD, SHIFT } state_t;
+  logic clk = 0;
+  logic [WIDTH-1:0] a, b, sum, kept;
+  logic [31:0] count;
+  state_t state;
+  wire carry, is_zero;
+
+  assign carry = (a[7] & b[7]) | (sum < a);
+  assign is_zero = sum == 8'h00;
+
+  always_comb begin
+    sum = a + b;
+    if (a > b) sum = a - b;
+    else if (a == 8'h10) sum = b ^ 8'hff;
+  end
+
+  always_ff @(posedge clk) begin
+    count <= count + 1;
+    case (state)
+      IDLE: if (is_zero) state <= LOAD;
+      LOAD: begin
+        kept <= {sum[6:0], carry};
+        state <= SHIFT;
+      end
+      default: state <= IDLE;
+    endcase
+  end
+
+  initial begin
+    a = 8'd1;
+    b = 8'd2;
+    if (kept !== sum && count[3:0] == 4'hf) $display("unit %0d: %b", count, kept);
+  end
+endmodule
+
+'''
+
+
 MEASURED = [(variables, 2_000, 4), (instances, 2_047, 4), (modules, 2_000, 4), (names, 2_000, 4), (constants, 250, 4), (typedefs, 250, 4), (items, 1_000, 4),
-            (classes, 100, 4), (statements, 5_000, 4), (empty, 250_000, 4)]
+            (classes, 100, 4), (statements, 5_000, 4), (empty, 250_000, 4), (real, 2 ** 20, 4)]
 
 
 def main():
@@ -83,6 +133,10 @@ def main():
                 source.write_text(design(count))
                 best = Best([PROGRAM, 'run', source, '--steps', '10'], runs, log)
                 print(f'{design.__name__} {count:,}, {source.stat().st_size:,} bytes: {best}; {best.last.replace(str(source), "FILE")}', flush=True)
+                if design is real:
+                    source.write_text(real(count) + ')\n')
+                    best = Best([PROGRAM, 'run', source], runs, log)
+                    print(f'read and refused: {best}; {best.last.replace(str(source), "FILE")}', flush=True)
 
 
 main()

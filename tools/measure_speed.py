@@ -66,10 +66,11 @@ def records(ticks):
 
 
 def cells(ticks):
-    cell = ('module cell(input logic clk, a, b, output logic q);\n  logic state = 0;\n  wire next = (a & ~b) | (b & ~a);\n'
-            '  always_ff @(posedge clk) state <= next;\n  assign q = state;\nendmodule\n')
-    wires = '\n'.join(f'  wire q{i};\n  cell c{i}(.clk(clk), .a(q{(i + 9999) % 10000}), .b({f"q{i // 2}" if i else "one"}), .q(q{i}));' for i in range(10000))
-    return cell + bench('  logic one = 1;\n' + wires, ticks)
+    cell = ('module bit_cell(input logic clk, a, b, output logic q);\n  logic state = 0;\n  wire sum = (a & ~b) | (b & ~a);\n'
+            '  always_ff @(posedge clk) state <= sum;\n  assign q = state;\nendmodule\n')
+    wires = '\n'.join(f'  wire q{i};' for i in range(10000))
+    instances = '\n'.join(f'  bit_cell c{i}(.clk(clk), .a(q{(i + 9999) % 10000}), .b({f"q{i // 2}" if i else "one"}), .q(q{i}));' for i in range(10000))
+    return cell + bench(f'  logic one = 1;\n{wires}\n{instances}', ticks)
 
 
 MEASURED = [(counter, 1_000_000), (shifter, 1_000), (enables, 5_000), (adder, 10_000), (memory, 1_000_000), (delays, 100_000), (records, 1_000_000), (cells, 1_000)]
