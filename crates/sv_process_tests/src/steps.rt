@@ -1,11 +1,11 @@
 // The effects of a process, step by step.
-use crate::small::{Item, Source, Variable, design_of};
+use crate::small::{HERE, Item, Source, Variable, design_of};
 use std::alloc::Global;
 use std::process::Abort;
 use std::test::Fail;
 use sv_built::Design;
 use sv_eval::Nowhere;
-use sv_process::{Effect, Frames, Spare, Went, step};
+use sv_process::{Effect, Frames, Spare, Stepped, Went, step};
 use sv_value::{NoMemory, RoutineId, Side, Text};
 
 /// A letter for each kind of effect.
@@ -34,7 +34,19 @@ fn one_step(
 ) -> Result<bool, NoMemory> {
     let _ = design.processes();
     let mut out = Vec::new(alloc);
-    let stepped = step(frames, alloc, design, &Nowhere, &mut out, spare)?;
+    let mut stepped = Stepped {
+        went: Went::Held,
+        at: HERE,
+    };
+    step(
+        frames,
+        alloc,
+        design,
+        &Nowhere,
+        &mut out,
+        spare,
+        &mut stepped,
+    )?;
     for effect in &out {
         text.push(letter_of(effect))?;
     }
