@@ -1,14 +1,18 @@
 -- The place of a target, by its parts (IEEE 1800-2017, 11.5.1).
-use Rattle.std.proofs.Common.{◌≡◌, ℕ, ◌+◌, ◌<◌, List, [], ◌∷◌, ◌++◌, length, drop, get_or, refl, ap, sym, ◌∙◌, append_assoc}
-use Rattle.std.specs.Prelude.{Some, None, Result, Ok, Err}
+use Rattle.std.proofs.Common.{◌≡◌, ℕ, ◌+◌, ◌<◌, List, [], ◌∷◌, ◌++◌, length, drop, get_or, refl, ap, subst, sym, ◌∙◌, append_assoc}
+use Rattle.std.specs.Prelude.{Option, Some, None, Result, Ok, Err, option_map}
 use Rattle.std.proofs.lemmas.List.{drop_more}
 use Rattle.sv_value.specs.declared.place.FaultKind.{FaultKind}
+use Rattle.sv_flat.specs.declared.object.Bounds.{Bounds}
 use Rattle.sv_flat.specs.declared.target.Lvalue.{Lvalue}
 use Rattle.sv_flat.specs.declared.target.Part.{Part}
-use Rattle.sv_flat.specs.State.{View}
-use Rattle.sv_flat.specs.Eval.{with_result, value_of, known_index, vector_in}
+use Rattle.sv_flat.specs.State.{Name, View}
+use Rattle.sv_flat.specs.Eval.{Valued, with_result, value_of, known_index, vector_in}
 use Rattle.sv_flat.specs.Process.{Spot}
-use Rattle.sv_flat.specs.Targets.{Placed, based, looked_through, range_of, range_at, spot_of, spots_of}
+use Rattle.sv_flat.specs.Targets.{Placed, based, element_at, variable_at, looked_through, range_of, range_at, spot_of, spots_of}
+use Rattle.sv_eval.specs.declared.stopped.Stopped.{Stopped}
+use Rattle.sv_assign.specs.declared.spot.Whole.{Whole}
+use Rattle.sv_assign.specs.Places.{Answers, placed_in}
 
 -- a part that is named without a reference
 pub spot_of-part : (l : Lvalue) (v : View) (p : Part) → l.through ≡ None → l.part ≡ Some p
@@ -46,3 +50,10 @@ pub spots_of-fault : (ls : List Lvalue) (i : ℕ) (l : Lvalue) (v : View) (found
 spots_of-fault ls i l v found k h is e =
     next_spot ls i l v found h is
     ∙ ap (λ (r : Result Spot FaultKind). gone_on found (with_result r (λ x. with_result (spots_of (drop (i + 1) ls) v) (λ ss. Ok (x ∷ ss))))) e
+
+-- a variable of an activation, by its name
+pub variable_named : (w : Result Whole Stopped) (r : Valued) (n m : Option Name) (place : ℕ) (b : Bounds) → n ≡ m
+    → Answers placed_in w (with_result r (λ x. Ok (variable_at n (option_map (λ k. place + k) (element_at b x)))))
+    → Answers placed_in w (with_result r (λ x. Ok (variable_at m (option_map (λ k. place + k) (element_at b x)))))
+variable_named w r n m place b same h =
+    subst (λ (o : Option Name). Answers placed_in w (with_result r (λ x. Ok (variable_at o (option_map (λ k. place + k) (element_at b x)))))) same h

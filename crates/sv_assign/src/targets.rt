@@ -9,12 +9,13 @@ ghost use Rattle.sv_flat.specs.Targets.{Placed, is_near, range_at, range_from, r
 ghost use Rattle.sv_eval.specs.Evaluates.{Evaluates};
 ghost use Rattle.sv_assign.specs.Places.{Answers, placed_in, spot_in, spots_in};
 
-use crate::cell::Cell;
 use crate::places::place_of;
+use crate::spot::Whole;
+use crate::{Scoped, Spot};
 use std::alloc::Global;
-use sv_eval::{Stopped, Values, known_index, value, vector_in};
+use sv_eval::{Stopped, known_index, value, vector_in};
 use sv_flat::{Lvalue, Part};
-use sv_value::{NoMemory, ObjectTarget, Range, Target, Val};
+use sv_value::{NoMemory, ObjectTarget, Range, Val};
 
 /// The lowest place of a part.
 fn low_place(offset: i64, is_falling: bool, index: i128) -> Result<i128, NoMemory>
@@ -77,21 +78,26 @@ fn range(part: &Part, index: Result<Val, Stopped>) -> Result<Range, Stopped>
 }
 
 /// A place, whole or in part.
-fn target_at(place: Option<Cell>, part: Option<Range>) -> Target
+fn target_at(place: Whole, part: Option<Range>) -> Spot
     ensures { spot_in result ≡ placed_in place part }
 {
     match place {
-        Some(cell) => Target::Object(ObjectTarget {
-            object: cell.object,
-            element: cell.element,
+        Whole::Cell { object, element } => Spot::Cell(ObjectTarget {
+            object,
+            element,
             part,
         }),
-        None => Target::Nothing,
+        Whole::Variable { name, variable } => Spot::Variable {
+            name,
+            variable,
+            part,
+        },
+        Whole::Nowhere => Spot::Nowhere,
     }
 }
 
 /// A whole place.
-fn whole(place: Result<Option<Cell>, Stopped>) -> Result<Target, Stopped>
+fn whole(place: Result<Whole, Stopped>) -> Result<Spot, Stopped>
     ensures { (p : Result Placed Fault) → Answers placed_in place p → Answers spot_in result (with_result p (λ q. Ok (q None))) }
 {
     match place {
@@ -101,10 +107,7 @@ fn whole(place: Result<Option<Cell>, Stopped>) -> Result<Target, Stopped>
 }
 
 /// A part of a place.
-fn in_part(
-    place: Result<Option<Cell>, Stopped>,
-    range: Result<Range, Stopped>,
-) -> Result<Target, Stopped>
+fn in_part(place: Result<Whole, Stopped>, range: Result<Range, Stopped>) -> Result<Spot, Stopped>
     ensures { (p : Result Placed Fault) (r : Result (Option BitRange) Fault) → Answers placed_in place p → Answers (λ (x : BitRange). Some x) range r
         → Answers spot_in result (with_result p (λ q. with_result r (λ x. Ok (q x)))) }
 {
@@ -117,9 +120,9 @@ fn in_part(
     }
 }
 
-/// The place that a target stands for, or the fault that it meets. Memory is wanting, too, for variables of activations, properties of
-/// objects, items of containers, and members that are named through a reference.
-pub fn spot_of<V: Values>(alloc: Global, target: &Lvalue, values: &V) -> Result<Target, Stopped>
+/// The place that a target stands for, or the fault that it meets. Memory is wanting, too, for properties of objects, items of containers,
+/// and members that are named through a reference.
+pub fn spot_of<V: Scoped>(alloc: Global, target: &Lvalue, values: &V) -> Result<Spot, Stopped>
     ensures { Answers spot_in result (spot_of target.now (V.view values.now)) }
 {
     match &target.through {
@@ -135,11 +138,11 @@ pub fn spot_of<V: Values>(alloc: Global, target: &Lvalue, values: &V) -> Result<
 }
 
 /// The places that targets stand for: all are computed before the first one is written.
-pub fn spots_of<V: Values>(
+pub fn spots_of<V: Scoped>(
     alloc: Global,
     targets: &[Lvalue],
     values: &V,
-) -> Result<Vec<Target>, Stopped>
+) -> Result<Vec<Spot>, Stopped>
     ensures { Answers (λ ts. spots_in ts.items) result (spots_of targets.now (V.view values.now)) }
 {
     let mut found = Vec::new(alloc);

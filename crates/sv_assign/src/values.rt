@@ -3,11 +3,11 @@ ghost use Rattle.std.specs.Prelude.{◌≡◌, ◌+◌, ◌≤◌, ℕ, IfOk, dr
 ghost use Rattle.sv_value.specs.declared.val.Val.TheVariants.{Bits as bits};
 ghost use Rattle.sv_value.specs.Vector.{resized, unsigned};
 ghost use Rattle.sv_flat.specs.Eval.{vector_in};
-ghost use Rattle.sv_flat.specs.Targets.{at_least, converted, spread, target_values};
+ghost use Rattle.sv_flat.specs.Targets.{as_type, at_least, converted, spread, target_values};
 ghost use Rattle.sv_flat.specs.Targets as defined;
 
 use crate::pieces::piece;
-use crate::widths::{as_integral, target_width};
+use crate::widths::{as_integral, target_width, type_width};
 use std::alloc::Global;
 use sv_eval::vector_in;
 use sv_flat::{DataType, Lvalue};
@@ -29,6 +29,13 @@ fn converted(ty: DataType, width: u32, value: Val) -> Result<Val, NoMemory>
         }
         _ => Ok(value),
     }
+}
+
+/// A value as one of a type, whole. Memory is wanting for widths that no vector has.
+pub fn as_type(ty: DataType, value: Val) -> Result<Val, NoMemory>
+    ensures { IfOk result (λ v. v ≡ as_type ty value) }
+{
+    converted(ty, type_width(ty), value)
 }
 
 /// The value that a target takes. Memory is wanting for widths that no vector has.

@@ -7,7 +7,7 @@ use sv_flat::{DataType, Lvalue};
 use sv_value::{Bits, Integral, NoMemory, Plain, WIDEST};
 
 /// The width of a type, 0 where it has none.
-fn type_width(ty: DataType) -> u32
+pub fn type_width(ty: DataType) -> u32
     ensures { result ≡ eval.type_width ty }
 {
     match ty {

@@ -5,33 +5,13 @@ ghost use Rattle.sv_flat.specs.State.{World, value_at};
 ghost use Rattle.sv_flat.specs.Process.{Cell};
 ghost use Rattle.sv_flat.specs.Effects.Writes.{wrote};
 ghost use Rattle.sv_store.specs.Overwrites.{object_before};
-ghost use Rattle.sv_assign.specs.Places.{spot_in};
 
 use sv_store::{Overwritten, Store};
-use sv_value::{NoMemory, ObjectTarget, Target, Val};
+use sv_value::{NoMemory, ObjectTarget, Val};
 
-/// Writes a value, and tells what was overwritten, where a value is another one then. Memory is wanting, too, where a whole driver has
-/// another width than its net, which no driver of an elaborated design has, and for variables of activations, properties and items.
+/// Writes an element of an object, or a driver of a net, or a part of it, and tells what was overwritten, where a value is another one
+/// then. Memory is wanting, too, where a whole driver has another width than its net, which no driver of an elaborated design has.
 pub fn overwrite(
-    store: &mut Store,
-    target: &Target,
-    value: Val,
-) -> Result<Option<Overwritten>, NoMemory>
-    ensures wrote { OnOk result ((w : World) → w.store ≡ store.old → wrote (spot_in target.now) value w ≡ Ok (record w { store = store.new })) }
-    ensures err { OnErr result (store.new ≡ store.old) }
-    ensures some { IfOk result (λ r. IfSome r (λ w. (o : ObjectNumber) (j : ℕ) → value_at store.old o j ≡ object_before w store.new o j)) }
-    ensures differs { IfOk result (λ r. IfSome r (λ w. w.old ≢ value_at store.new w.object w.element)) }
-    ensures none { IfOk result (λ r. IfNone r ((o : ObjectNumber) (j : ℕ) → value_at store.new o j ≡ value_at store.old o j)) }
-{
-    match target {
-        Target::Object(target) => overwrite_object(store, *target, value),
-        Target::Nothing => Ok(None),
-        Target::Local { .. } | Target::Field { .. } | Target::Item { .. } => Err(NoMemory::Memory),
-    }
-}
-
-/// Writes an element of an object, or a driver of a net.
-fn overwrite_object(
     store: &mut Store,
     target: ObjectTarget,
     value: Val,

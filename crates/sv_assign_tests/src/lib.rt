@@ -5,3 +5,5 @@
 
 #[cfg(test)]
 mod targets;
+#[cfg(test)]
+mod variables;

@@ -7,11 +7,12 @@ ghost use Rattle.sv_flat.specs.declared.object.ObjectKind.TheVariants as kind;
 use std::alloc::Global;
 use std::process::Abort;
 use std::test::Fail;
-use sv_assign::{Before, Seen, overwrite, spot_of, spots_of, target_value, target_values};
+use sv_arena::Activations;
+use sv_assign::{Before, Seen, Spot, overwrite, spot_of, spots_of, target_value, target_values};
 use sv_eval::Values;
 use sv_flat::{Base, Bounds, DataType, Expr, ExprForm, Home, Lvalue, Object, ObjectKind, Part};
 use sv_store::Store;
-use sv_value::{Bits, Integral, ObjId, ObjectTarget, Place, Plain, Range, Seq, Target, Val, Word};
+use sv_value::{Bits, Integral, ObjId, ObjectTarget, Place, Plain, Range, Seq, Val, Word};
 
 const HERE: Place = Place {
     file: 0,
@@ -120,18 +121,29 @@ fn same_value<R: Abort>(rt: &R, got: &Val, wanted: Bits) {
     assert!(rt; got.equals(&Val::Bits(wanted)));
 }
 
+/// What a store has outside of all activations.
+fn seen_in<'s, 'a>(store: &'s Store, activations: &'a Activations) -> Seen<'s, 'a> {
+    Seen {
+        store,
+        activations,
+        scope: None,
+        time: 0,
+        unit: 1,
+    }
+}
+
 /// A target is this place of an object.
-fn same_place<R: Abort>(rt: &R, got: &Target, wanted: ObjectTarget) {
+fn same_place<R: Abort>(rt: &R, got: &Spot, wanted: ObjectTarget) {
     match got {
-        Target::Object(place) => assert!(rt; *place == wanted),
+        Spot::Cell(place) => assert!(rt; *place == wanted),
         _ => assert!(rt; false),
     }
 }
 
 /// A target is nowhere.
-fn is_nowhere<R: Abort>(rt: &R, got: &Target) {
+fn is_nowhere<R: Abort>(rt: &R, got: &Spot) {
     match got {
-        Target::Nothing => {}
+        Spot::Nowhere => {}
         _ => assert!(rt; false),
     }
 }
@@ -140,15 +152,12 @@ fn is_nowhere<R: Abort>(rt: &R, got: &Target) {
 fn an_element_is_written(rt: HostRuntime) -> Result<(), Fail> {
     let alloc = rt.alloc();
     let mut store = Store::new(alloc, &[four_bytes(alloc), net_of_a_byte(alloc)])?;
+    let activations = Activations::new(alloc, 0)?;
     let target = byte_target(
         element(literal(alloc, 1, 0)?),
         four_bits(literal(alloc, 4, 0)?),
     );
-    let seen = Seen {
-        store: &store,
-        time: 0,
-        unit: 1,
-    };
+    let seen = seen_in(&store, &activations);
     let spot = spot_of(alloc, &target, &seen)?;
     let wanted = ObjectTarget {
         object: ObjId(0),
@@ -158,14 +167,14 @@ fn an_element_is_written(rt: HostRuntime) -> Result<(), Fail> {
     same_place(&rt, &spot, wanted);
     let value = target_value(&target, Val::Bits(Bits::truncated(8, false, 26, 0)))?;
     same_value(&rt, &value, Bits::truncated(4, false, 10, 0));
-    let overwritten = overwrite(&mut store, &spot, value)?.ok_or("a change")?;
-    let seen = Seen {
+    let overwritten = overwrite(&mut store, wanted, value)?.ok_or("a change")?;
+    let seen = seen_in(&store, &activations);
+    let before = Before {
         store: &store,
+        activations: &activations,
+        scope: None,
         time: 0,
         unit: 1,
-    };
-    let before = Before {
-        seen,
         overwritten: &overwritten,
     };
     same_value(
@@ -195,17 +204,16 @@ fn an_element_is_written(rt: HostRuntime) -> Result<(), Fail> {
 fn a_driver_is_written(rt: HostRuntime) -> Result<(), Fail> {
     let alloc = rt.alloc();
     let mut store = Store::new(alloc, &[four_bytes(alloc), net_of_a_byte(alloc)])?;
-    let place = Target::Object(ObjectTarget {
+    let place = ObjectTarget {
         object: ObjId(1),
         element: 1,
         part: None,
-    });
+    };
     let five = Bits::truncated(8, false, 5, 0);
-    let overwritten = overwrite(&mut store, &place, Val::Bits(five))?.ok_or("a change")?;
+    let overwritten = overwrite(&mut store, place, Val::Bits(five))?.ok_or("a change")?;
     same_value(&rt, &overwritten.old, Bits::truncated(8, false, 255, 255));
     same_value(&rt, &store.read(alloc, ObjId(1), 0)?, five);
-    assert!(rt; overwrite(&mut store, &place, Val::Bits(five))?.is_none());
-    assert!(rt; overwrite(&mut store, &Target::Nothing, Val::Bits(five))?.is_none());
+    assert!(rt; overwrite(&mut store, place, Val::Bits(five))?.is_none());
     Ok(())
 }
 
@@ -213,11 +221,8 @@ fn a_driver_is_written(rt: HostRuntime) -> Result<(), Fail> {
 fn targets_have_places(rt: HostRuntime) -> Result<(), Fail> {
     let alloc = rt.alloc();
     let store = Store::new(alloc, &[four_bytes(alloc), net_of_a_byte(alloc)])?;
-    let seen = Seen {
-        store: &store,
-        time: 0,
-        unit: 1,
-    };
+    let activations = Activations::new(alloc, 0)?;
+    let seen = seen_in(&store, &activations);
     let targets = [
         byte_target(Base::Driver(ObjId(1), 1), None),
         byte_target(element(literal(alloc, 4, 0)?), None),

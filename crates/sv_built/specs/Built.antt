@@ -4,6 +4,7 @@ use Rattle.std.specs.List.{AllByRecursion}
 use Rattle.sv_value.specs.declared.val.Plain.{Plain}
 use Rattle.sv_value.specs.declared.val.Plain.TheVariants as plain
 use Rattle.sv_flat.specs.declared.object.Object.{Object as Declared_object}
+use Rattle.sv_flat.specs.declared.object.Declared.{Declared}
 use Rattle.sv_flat.specs.declared.object.ObjectKind.{ObjectKind}
 use Rattle.sv_flat.specs.declared.object.ObjectKind.TheVariants as kind
 use Rattle.sv_flat.specs.declared.object.DataType.{DataType}
@@ -15,7 +16,13 @@ use Rattle.sv_flat.specs.declared.process.Edge.{Edge}
 use Rattle.sv_flat.specs.declared.process.Edge.TheVariants as edge
 use Rattle.sv_flat.specs.declared.process.Watch.{Watch}
 use Rattle.sv_flat.specs.declared.process.Watch.TheVariants.{On}
+use Rattle.sv_flat.specs.declared.class.Formal.{Formal}
+use Rattle.sv_flat.specs.declared.class.Subroutine.{Subroutine}
 use Rattle.sv_flat.specs.declared.class.Routine.{Routine}
+use Rattle.sv_flat.specs.declared.call.Argument.{Argument}
+use Rattle.sv_flat.specs.declared.call.Call.{Call}
+use Rattle.sv_flat.specs.declared.call.CallForm.{CallForm}
+use Rattle.sv_flat.specs.declared.call.CallForm.TheVariants as call
 use Rattle.sv_flat.specs.declared.stmt.Stmt.{Stmt}
 use Rattle.sv_flat.specs.declared.stmt.CaseItem.{CaseItem}
 use Rattle.sv_flat.specs.declared.stmt.Form.{Form}
@@ -28,10 +35,10 @@ use Rattle.sv_flat.specs.declared.stmt.PrintKind.{PrintKind}
 use Rattle.sv_flat.specs.declared.stmt.PrintKind.TheVariants as print
 use Rattle.sv_flat.specs.declared.design.Parts.{Parts}
 use Rattle.sv_flat.specs.Contexts.{IsWidth}
-use Rattle.sv_flat.specs.Expr.{Expr, Literal, Text, Object, Element, Select, Unary, Binary, Choose, Join, Repeat, Convert, Widen, Time, Length, Log2, Name, Printed}
+use Rattle.sv_flat.specs.Expr.{Expr, Literal, Text, Object, Element, Local, LocalElement, Select, Unary, Binary, Choose, Join, Repeat, Convert, Widen, Time, Length, Log2, Name, Printed}
 use Rattle.sv_flat.specs.Opening.{elements_of}
 
--- ---- expressions: what reads objects alone, and neither the heap nor an activation
+-- ---- expressions: what reads objects and the variables of activations, and not the heap
 
 -- a vector or a string
 abbrev pub IsBuiltPlain : Plain → Type 0
@@ -44,12 +51,14 @@ abbrev pub IsBuiltType : DataType → Type 0
 IsBuiltType (type.Plain t) = IsBuiltPlain t
 IsBuiltType _ = ⊥
 
--- an expression of literals, objects, elements, selects and operators
+-- an expression of literals, objects, variables, elements, selects and operators
 abbrev pub IsBuiltExpr : Expr → Type 0
 IsBuiltExpr (Literal v f) = Unit {0}
 IsBuiltExpr (Text b) = Unit {0}
 IsBuiltExpr (Object at o t) = IsBuiltType t
 IsBuiltExpr (Element at o b t i) = IsBuiltExpr i
+IsBuiltExpr (Local up p t) = IsBuiltType t
+IsBuiltExpr (LocalElement up p b t i) = IsBuiltExpr i
 IsBuiltExpr (Select w o f x a i) = IsBuiltExpr a × IsBuiltExpr i
 IsBuiltExpr (Unary op a) = IsBuiltExpr a
 IsBuiltExpr (Binary op a b) = IsBuiltExpr a × IsBuiltExpr b
@@ -70,11 +79,38 @@ abbrev pub IsBuiltOptional : Option Expr → Type 0
 IsBuiltOptional None = Unit {0}
 IsBuiltOptional (Some e) = IsBuiltExpr e
 
+-- such an expression that reads no variable of an activation, so that it has one value in all scopes
+abbrev pub IsStaticExpr : Expr → Type 0
+IsStaticExpr (Literal v f) = Unit {0}
+IsStaticExpr (Text b) = Unit {0}
+IsStaticExpr (Object at o t) = IsBuiltType t
+IsStaticExpr (Element at o b t i) = IsStaticExpr i
+IsStaticExpr (Select w o f x a i) = IsStaticExpr a × IsStaticExpr i
+IsStaticExpr (Unary op a) = IsStaticExpr a
+IsStaticExpr (Binary op a b) = IsStaticExpr a × IsStaticExpr b
+IsStaticExpr (Choose c a b) = IsStaticExpr c × IsStaticExpr a × IsStaticExpr b
+IsStaticExpr (Join a b) = IsStaticExpr a × IsStaticExpr b
+IsStaticExpr (Repeat n a) = IsStaticExpr a
+IsStaticExpr (Convert t a) = IsStaticExpr a
+IsStaticExpr (Widen n s a) = IsStaticExpr a
+IsStaticExpr (Time at) = Unit {0}
+IsStaticExpr (Length a) = IsStaticExpr a
+IsStaticExpr (Log2 a) = IsStaticExpr a
+IsStaticExpr (Name is a) = IsStaticExpr a
+IsStaticExpr (Printed f p a) = IsStaticExpr a
+IsStaticExpr _ = ⊥
+
+-- such an expression, if there is one
+abbrev pub IsStaticOptional : Option Expr → Type 0
+IsStaticOptional None = Unit {0}
+IsStaticOptional (Some e) = IsStaticExpr e
+
 -- ---- objects
 
--- a variable, or a net of vectors
+-- a variable, the result of a static function, or a net of vectors
 abbrev pub IsBuiltKind : ObjectKind → DataType → Type 0
 IsBuiltKind kind.Variable t = Unit {0}
+IsBuiltKind kind.Result t = Unit {0}
 IsBuiltKind (kind.Net n) (type.Plain (plain.Integral t)) = Unit {0}
 IsBuiltKind _ _ = ⊥
 
@@ -93,11 +129,13 @@ pub record IsBuiltObject (o : Declared_object) : Type 0 where
 
 -- ---- targets and event expressions
 
--- an object, a driver of a net, or an element
+-- an object, a driver of a net, a variable of an activation, or an element
 abbrev pub IsBuiltBase : Base → Type 0
 IsBuiltBase (base.Object o) = Unit {0}
 IsBuiltBase (base.Driver o n) = Unit {0}
 IsBuiltBase (base.Element o b i) = IsBuiltExpr i
+IsBuiltBase (base.Local up p) = Unit {0}
+IsBuiltBase (base.LocalElement up p b i) = IsBuiltExpr i
 IsBuiltBase _ = ⊥
 
 -- a part, if there is one
@@ -116,10 +154,31 @@ abbrev pub IsBuiltEdge : Edge → Type 0
 IsBuiltEdge edge.Trigger = ⊥
 IsBuiltEdge _ = Unit {0}
 
--- an event expression, with an `iff` or without
+-- an event expression of static objects, with an `iff` or without
 abbrev pub IsBuiltWatch : Watch → Type 0
-IsBuiltWatch (On e g c) = IsBuiltEdge g × IsBuiltExpr e × IsBuiltOptional c
+IsBuiltWatch (On e g c) = IsBuiltEdge g × IsStaticExpr e × IsStaticOptional c
 IsBuiltWatch _ = ⊥
+
+-- ---- calls
+
+-- the targets of an output, if it is one
+abbrev pub IsBuiltOutput : Option (List Lvalue) → Type 0
+IsBuiltOutput None = Unit {0}
+IsBuiltOutput (Some ts) = AllByRecursion IsBuiltTarget ts
+
+-- an argument of a call
+pub record IsBuiltArgument (a : Argument) : Type 0 where
+  pub value : IsBuiltOptional a.value
+  pub output : IsBuiltOutput a.targets
+
+-- a task or a function that no reference leads to
+abbrev pub IsBuiltCallForm : CallForm → Type 0
+IsBuiltCallForm (call.Routine r None as') = AllByRecursion IsBuiltArgument as'
+IsBuiltCallForm _ = ⊥
+
+-- a call that runs
+abbrev pub IsBuiltCall : Call → Type 0
+IsBuiltCall c = IsBuiltCallForm c.form
 
 -- ---- statements
 
@@ -133,10 +192,14 @@ IsBuiltKindOfPrint print.Now = Unit {0}
 IsBuiltKindOfPrint print.Strobe = Unit {0}
 IsBuiltKindOfPrint print.Monitor = ⊥
 
+-- a variable of an activation, of vectors or strings
+abbrev pub IsBuiltVariable : Declared → Type 0
+IsBuiltVariable v = IsBuiltType v.ty
+
 -- a form that runs
 abbrev pub IsBuiltForm : Form → Type 0
 IsBuiltForm form.Null = Unit {0}
-IsBuiltForm (form.Block [] body) = Unit {0}
+IsBuiltForm (form.Block vs body) = AllByRecursion IsBuiltVariable vs
 IsBuiltForm (form.Assign ts e) = AllByRecursion IsBuiltTarget ts × IsBuiltExpr e
 IsBuiltForm (form.AssignAfter ts e delay in_ticks) = AllByRecursion IsBuiltTarget ts × IsBuiltExpr e × IsBuiltExpr delay
 IsBuiltForm (form.Nonblocking ts e delay in_ticks) = AllByRecursion IsBuiltTarget ts × IsBuiltExpr e × IsBuiltOptional delay
@@ -146,24 +209,34 @@ IsBuiltForm (form.While e body step) = IsBuiltExpr e
 IsBuiltForm (form.Do again) = Unit {0}
 IsBuiltForm (form.Repeat e body) = IsBuiltExpr e
 IsBuiltForm (form.Forever body) = Unit {0}
+IsBuiltForm (form.ForeachElement b body) = Unit {0}
 IsBuiltForm form.Break = Unit {0}
 IsBuiltForm form.Continue = Unit {0}
+IsBuiltForm (form.Return ts e) = AllByRecursion IsBuiltTarget ts × IsBuiltOptional e
+IsBuiltForm (form.Call c) = IsBuiltCall c
 IsBuiltForm (form.Evaluate e) = IsBuiltExpr e
 IsBuiltForm (form.Delay e in_ticks) = IsBuiltExpr e
 IsBuiltForm (form.At ws) = AllByRecursion IsBuiltWatch ws
-IsBuiltForm (form.Wait e) = IsBuiltExpr e
+IsBuiltForm (form.Wait e) = IsStaticExpr e
 IsBuiltForm (form.Print k ps es) = IsBuiltKindOfPrint k × AllByRecursion IsBuiltExpr es
 IsBuiltForm form.Finish = Unit {0}
 IsBuiltForm _ = ⊥
 
--- a statement without calls, of such a form
+-- a statement of such a form, with calls that run before it, whose results are vectors or strings
 pub record IsBuiltStmt (s : Stmt) : Type 0 where
-  pub no_calls : s.calls ≡ []
+  pub hidden : AllByRecursion IsBuiltType s.hidden
+  pub calls : AllByRecursion IsBuiltCall s.calls
   pub built : IsBuiltForm s.form
 
+-- the variables of a subroutine, if it is one
+abbrev pub IsBuiltSubroutine : Option Subroutine → Type 0
+IsBuiltSubroutine None = Unit {0}
+IsBuiltSubroutine (Some s) = AllByRecursion IsBuiltVariable s.locals
+
 -- a routine of such statements
-abbrev pub IsBuiltRoutine : Routine → Type 0
-IsBuiltRoutine r = AllByRecursion IsBuiltStmt r.body
+pub record IsBuiltRoutine (r : Routine) : Type 0 where
+  pub body : AllByRecursion IsBuiltStmt r.body
+  pub subroutine : IsBuiltSubroutine r.subroutine
 
 -- ---- designs
 

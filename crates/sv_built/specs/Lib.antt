@@ -4,3 +4,5 @@ pub mod Built
 pub mod Positions
 -- ---- what a process waits for
 pub mod Waits
+-- ---- what an activation is made for
+pub mod Entered

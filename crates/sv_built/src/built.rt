@@ -47,12 +47,12 @@ fn is_built_kind(kind: ObjectKind, ty: DataType) -> bool
 {
     match kind {
         ObjectKind::Variable => true,
+        ObjectKind::Result => true,
         ObjectKind::Net(_) => match ty {
             DataType::Plain(Plain::Integral(_)) => true,
             _ => false,
         },
         ObjectKind::Sample => false,
-        ObjectKind::Result => false,
     }
 }
 

@@ -7,3 +7,4 @@ pub mod MarkLaws
 pub mod ProcessLaws
 pub mod FlatLaws
 pub mod LimitLaws
+pub mod TableLaws

@@ -1,5 +1,6 @@
 pub mod Views
 pub mod Marks
+pub mod Tables
 pub mod Laws
 pub mod Reaching
 pub mod Processes

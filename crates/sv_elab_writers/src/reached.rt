@@ -5,8 +5,8 @@ ghost use Rattle.sv_names.specs.Writers as writers;
 ghost use Rattle.sv_elab_writers.specs.Views.{touch_in, row_in};
 ghost use Rattle.sv_elab_writers.specs.Reaching.{overridden_in, called_at, reached_once, reached_by};
 
-use crate::rows::touches_at;
-use crate::{Row, Touch};
+use crate::Touch;
+use crate::table::Table;
 use std::alloc::Global;
 use sv_names::{ClassInfo, Path, copy_path, is_derived, same_path};
 use sv_value::{NoMemory, Seq, Text};
@@ -107,7 +107,7 @@ fn add_all_called(
 fn called_from(
     alloc: Global,
     classes: &[&ClassInfo],
-    table: &[Row],
+    table: &Table,
     callers: &[Path],
 ) -> Result<Seq<Path>, NoMemory>
     ensures { IfOk result (λ ps. ps ≡ flat_map (called_at (map (λ k. k.now) classes.now) (map row_in table.now)) callers.now) }
@@ -115,12 +115,7 @@ fn called_from(
     let mut paths = Seq::new(alloc);
     let mut left = callers;
     while let [one, rest @ ..] = left {
-        add_all_called(
-            alloc,
-            classes,
-            touches_at(one.as_slice(), table),
-            &mut paths,
-        )?;
+        add_all_called(alloc, classes, table.touches_at(one.as_slice()), &mut paths)?;
         left = rest;
     }
     Ok(paths)
@@ -151,7 +146,7 @@ fn add_all_new(more: Seq<Path>, paths: &mut Seq<Path>) -> Result<(), NoMemory>
 fn add_round(
     alloc: Global,
     classes: &[&ClassInfo],
-    table: &[Row],
+    table: &Table,
     paths: &mut Seq<Path>,
 ) -> Result<(), NoMemory>
     ensures { OnOk result (paths.new ≡ reached_once (map (λ k. k.now) classes.now) (map row_in table.now) paths.old) }
@@ -164,7 +159,7 @@ fn add_round(
 fn reached_from(
     alloc: Global,
     classes: &[&ClassInfo],
-    table: &[Row],
+    table: &Table,
     first: Seq<Path>,
 ) -> Result<Seq<Path>, NoMemory>
     ensures { IfOk result (λ ps. ps ≡ writers.reached_within (length table.now) (map (λ k. k.now) classes.now) (map row_in table.now) first) }
@@ -186,7 +181,7 @@ fn reached_from(
 pub(crate) fn reached(
     alloc: Global,
     classes: &[&ClassInfo],
-    table: &[Row],
+    table: &Table,
     touches: &[Touch],
 ) -> Result<Seq<Path>, NoMemory>
     ensures { IfOk result (λ ps. ps ≡ reached_by (map (λ k. k.now) classes.now) (map row_in table.now) (map touch_in touches.now)) }

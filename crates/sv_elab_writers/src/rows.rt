@@ -1,10 +1,6 @@
 // Processes and subroutines with their touches, as the rules on writers look them up.
-ghost use Rattle.std.specs.Prelude.{◌≡◌, map};
-ghost use Rattle.sv_names.specs.Writers as writers;
-ghost use Rattle.sv_elab_writers.specs.Views.{touch_in, row_in};
 
 use crate::{Touch, Writer};
-use sv_names::same_path;
 use sv_value::Text;
 
 /// The touches of a subroutine by its path.
@@ -25,16 +21,4 @@ pub struct Source<'a> {
     pub writer: Writer,
     /// What it does.
     pub touches: &'a [Touch],
-}
-
-/// The touches of the subroutine of a path.
-pub(crate) fn touches_at<'a>(path: &[Text], table: &[Row<'a>]) -> &'a [Touch]
-    ensures { map touch_in result.now ≡ writers.touches_at path.now (map row_in table.now) }
-{
-    for row in table {
-        if same_path(path, row.path) {
-            return row.touches;
-        }
-    }
-    &[]
 }

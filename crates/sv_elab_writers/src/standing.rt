@@ -10,7 +10,7 @@ use crate::clashes::{Law, all_stand, is_alone, none_initialized};
 use crate::flattened::{sources_of, table_of};
 use crate::limits::limits_stand;
 use crate::reached::reached;
-use crate::rows::touches_at;
+use crate::table::Table;
 use crate::writes::{Write, add_own_writes, add_table_writes, add_writes};
 use crate::{Initialized, Met, Row, Source, Writer};
 use std::alloc::Global;
@@ -43,7 +43,7 @@ fn has_alone(sources: &[Source]) -> bool
 #[tactic(auto, using(crate::proofs::WrittenLaws::turn_written, crate::proofs::WrittenLaws::all_written))]
 fn add_reached_writes<'a>(
     source: Source,
-    table: &[Row<'a>],
+    table: &Table<'a>,
     paths: &[Path],
     writes: &mut Seq<Write<'a>>,
 ) -> Result<(), NoMemory>
@@ -52,7 +52,7 @@ fn add_reached_writes<'a>(
 {
     let mut left = paths;
     while let [one, rest @ ..] = left {
-        let touches = touches_at(one.as_slice(), table);
+        let touches = table.touches_at(one.as_slice());
         add_writes(source.process, source.writer, touches, writes)?;
         left = rest;
     }
@@ -64,7 +64,7 @@ fn add_reached_writes<'a>(
 fn add_all_writes<'a>(
     alloc: Global,
     classes: &[&ClassInfo],
-    table: &[Row<'a>],
+    table: &Table<'a>,
     source: Source<'a>,
     writes: &mut Seq<Write<'a>>,
 ) -> Result<(), NoMemory>
@@ -81,7 +81,7 @@ fn add_all_writes<'a>(
 fn add_procedure_writes<'a>(
     alloc: Global,
     classes: &[&ClassInfo],
-    table: &[Row<'a>],
+    table: &Table<'a>,
     source: Source<'a>,
     writes: &mut Seq<Write<'a>>,
 ) -> Result<(), NoMemory>
@@ -99,7 +99,7 @@ fn add_procedure_writes<'a>(
 fn add_all_procedures<'a>(
     alloc: Global,
     classes: &[&ClassInfo],
-    table: &[Row<'a>],
+    table: &Table<'a>,
     sources: &[Source<'a>],
     writes: &mut Seq<Write<'a>>,
 ) -> Result<(), NoMemory>
@@ -119,7 +119,7 @@ fn add_all_procedures<'a>(
 fn procedures_write<'a>(
     alloc: Global,
     classes: &[&ClassInfo],
-    table: &[Row<'a>],
+    table: &Table<'a>,
     sources: &[Source<'a>],
 ) -> Result<Seq<Write<'a>>, NoMemory>
     ensures { IfOk result (λ ws. map write_in ws ≡ writers.of_processes (writers.has_alone (map source_in sources.now))
@@ -176,7 +176,8 @@ pub fn writers_stand(
         (map initialized_in variables.now)) }
 {
     let written = all_written(alloc, table, sources)?;
-    let by_procedures = procedures_write(alloc, classes, table, sources)?;
+    let table = Table::new(alloc, table)?;
+    let by_procedures = procedures_write(alloc, classes, &table, sources)?;
     let stands = writers_agree(
         alloc,
         written.as_slice(),

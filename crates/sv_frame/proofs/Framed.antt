@@ -5,15 +5,18 @@ use Rattle.std.specs.List.{AllByRecursion}
 use Rattle.sv_value.specs.declared.number.ProcessId.{ProcessId}
 use Rattle.sv_value.specs.declared.schedule.Side.{Side}
 use Rattle.sv_value.specs.declared.place.RunFault.{RunFault}
+use Rattle.sv_flat.specs.declared.call.Call.{Call}
+use Rattle.sv_flat.specs.declared.call.CallForm.{CallForm}
+use Rattle.sv_flat.specs.declared.call.CallForm.TheVariants as call
 use Rattle.sv_flat.specs.declared.stmt.Form.{Form}
 use Rattle.sv_flat.specs.declared.stmt.Form.TheVariants as form
 use Rattle.sv_flat.specs.declared.process.Process.{Process}
 use Rattle.sv_flat.specs.declared.design.Parts.{Parts}
-use Rattle.sv_flat.specs.Process.{ProcessState, Todo, Do, Turn, Start_children, Leave, Effect, Spawn, Await_children, End_descendants, Exit_program, End}
+use Rattle.sv_flat.specs.Process.{ProcessState, Todo, Do, Turn, Start_children, Effect, Spawn, Await_children, End_descendants, Exit_program, End}
 use Rattle.sv_flat.specs.Config.{Config, process_at, first_process, side_of, side_in, seen}
 use Rattle.sv_flat.specs.Micro.{micro}
 use Rattle.sv_flat.specs.Laws.{IsReached, DoesStep, MeetsActivations, SameReach, SameStep, Frames, all_applied, effects_of, step_effects, place_in, step_before_wakes}
-use Rattle.sv_built.specs.Built.{IsBuilt, IsBuiltForm, IsBuiltProcess}
+use Rattle.sv_built.specs.Built.{IsBuiltProcess, IsBuilt, IsBuiltCallForm, IsBuiltCall, IsBuiltForm}
 use Rattle.sv_sound.specs.Sound.{IsSound, IsPlainTodo, IsPlainEffect}
 use Rattle.sv_sound.proofs.Weights.{all_at}
 use Rattle.sv_sound.proofs.EffectSound.{found}
@@ -25,7 +28,7 @@ use Rattle.sv_frame.proofs.Alike.{Alike, same_step}
 use Rattle.sv_frame.proofs.Effects.{HasBody, IsFramedEffect, Outcome, all_outcome}
 use Rattle.sv_frame.proofs.Heads.{micro_same}
 use Rattle.sv_frame.proofs.Home.{head_same}
-use Rattle.sv_frame.proofs.MicroHome.{IsFramedForm, IsFramedTodo, micro_home}
+use Rattle.sv_frame.proofs.MicroHome.{IsFramedCall, IsFramedForm, IsFramedTodo, micro_home}
 use Rattle.sv_frame.proofs.Homes.{AllHome, RunsHome, sides_of, own_side}
 use Rattle.sv_frame.proofs.Runs.{begins_with, legal_home}
 
@@ -73,16 +76,23 @@ module _ (d : Parts) (p : ProcessId) (c e : Config) (same : SameReach d (side_of
 
 -- ---- built designs
 
+call_framed : (c : CallForm) → IsBuiltCallForm c → IsFramedCall c
+call_framed (call.Routine r e as') h = tt
+call_framed c h = absurd h
+
+calls_framed : (cs : List Call) → AllByRecursion IsBuiltCall cs → AllByRecursion (λ c. IsFramedCall c.form) cs
+calls_framed [] h = tt
+calls_framed (c ∷ cs) h = (call_framed c.form h.0, calls_framed cs h.1)
+
 form_framed : (f : Form) → IsBuiltForm f → IsFramedForm f
-form_framed (form.Call c) h = absurd h
+form_framed (form.Call c) h = call_framed c.form h
 form_framed (form.Fork ts initializers children join) h = absurd h
 form_framed f h = tt
 
 todo_framed : (t : Todo) → IsPlainTodo t → IsFramedTodo t
-todo_framed (Do t cs outer hidden) h = (form_framed t.form h.0.built, h.1)
-todo_framed (Turn t scope) h = (form_framed t.form h.0.built, h.0.no_calls)
+todo_framed (Do t cs outer hidden) h = (form_framed t.form h.0.built, calls_framed cs h.1)
+todo_framed (Turn t scope) h = (form_framed t.form h.built, calls_framed t.calls h.calls)
 todo_framed (Start_children at cs j scope) h = absurd h
-todo_framed (Leave at r) h = absurd h
 todo_framed t h = tt
 
 todos_framed : (ts : List Todo) → AllByRecursion IsPlainTodo ts → AllByRecursion IsFramedTodo ts

@@ -43,7 +43,8 @@ use Rattle.sv_flat.specs.Effects.Scheduling.{suspended, update_scheduled, may_co
 use Rattle.sv_flat.specs.Effects.Ends.{ended, all_ended, at_end, program_ended, program_in, program_checked, finished_if_over, living_children, descendants, joined, is_ended, same_program}
 use Rattle.sv_flat.specs.Clocks.{new_samples, sample_written, samples_written, with_fewer, updated_waits, waiters_woken, kept_scheduled, kept_drives, clock_updated}
 use Rattle.sv_flat.specs.Steps.{Kind, Begin_slot, Take_process, Run_statement, Take_job, Move_region, End_slot, Next_time, acting, front, after, effect, counted, numbers_used, side_after, taken_at, combs_started, held_combs, is_starter, waiting_starters, statement_ran, ran_state, job_taken, job_done, job_spot, updates_written, strobe_text, strobe_printed, strobes_printed, monitor_tried, monitor_printed, is_due, closed, slot_ended}
-use Rattle.sv_frame.proofs.Paths.{IsIn, body_of_side}
+use Rattle.sv_frame.proofs.Ways.{IsIn}
+use Rattle.sv_frame.proofs.Paths.{body_of_side}
 use Rattle.sv_frame.proofs.Heaps.{heaped, heap_after, effect_heap}
 use Rattle.sv_frame.proofs.Masks.{KeepsSide}
 use Rattle.sv_frame.proofs.Scopes.{sides, IsScope, IsEnclosed, side_listed}

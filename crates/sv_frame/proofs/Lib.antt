@@ -4,6 +4,7 @@ pub mod Alike
 pub mod Lists
 pub mod Heaps
 pub mod Effects
+pub mod Ways
 pub mod Paths
 pub mod Heads
 pub mod Home

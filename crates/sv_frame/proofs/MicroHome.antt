@@ -1,6 +1,6 @@
--- What a step leaves to run stands in the bodies of the side where what was left to run does; calls and forks are not among these steps yet.
-use Rattle.std.proofs.Common.{ℕ, zero, suc, ◌≡◌, ◌+◌, List, [], ◌∷◌, ◌++◌, Option, None, Some, Bool, true, false, cond, refl, subst, sym, map, inl, inr, slice_get}
-use Rattle.std.specs.Prelude.{Result, Ok, Err, unwrap_or, if◌then◌else◌, nat_lt, ◌==◌, ◌^◌}
+-- What a step leaves to run stands in the bodies of the side where what was left to run does; forks and calls of methods are not among these steps yet.
+use Rattle.std.proofs.Common.{ℕ, zero, suc, ◌≡◌, ◌+◌, List, [], ◌∷◌, ◌++◌, Option, None, Some, Bool, true, false, cond, refl, map, inl, inr, slice_get}
+use Rattle.std.specs.Prelude.{Result, Ok, Err, IfOk, flat_map, unwrap_or, if◌then◌else◌, nat_lt, nat_le, ◌==◌, ◌^◌}
 use Rattle.std.specs.List.{AllByRecursion}
 use Rattle.sv_value.specs.declared.number.ProcessId.{ProcessId}
 use Rattle.sv_value.specs.declared.number.RoutineId.{RoutineId}
@@ -24,6 +24,13 @@ use Rattle.sv_flat.specs.declared.object.Bounds.{Bounds}
 use Rattle.sv_flat.specs.declared.object.Declared.{Declared}
 use Rattle.sv_flat.specs.declared.process.Edge.TheVariants as edge
 use Rattle.sv_flat.specs.declared.process.Watch.TheVariants.{On, Updates}
+use Rattle.sv_flat.specs.declared.class.Variable.{Variable}
+use Rattle.sv_flat.specs.declared.class.Formal.{Formal}
+use Rattle.sv_flat.specs.declared.class.Subroutine.{Subroutine}
+use Rattle.sv_flat.specs.declared.call.Argument.{Argument}
+use Rattle.sv_flat.specs.declared.call.Call.{Call}
+use Rattle.sv_flat.specs.declared.call.CallForm.{CallForm}
+use Rattle.sv_flat.specs.declared.call.CallForm.TheVariants as call
 use Rattle.sv_flat.specs.declared.stmt.CaseItem.{CaseItem}
 use Rattle.sv_flat.specs.declared.stmt.Stmt.{Stmt}
 use Rattle.sv_flat.specs.declared.stmt.Form.{Form}
@@ -35,37 +42,44 @@ use Rattle.sv_flat.specs.declared.design.Parts.{Parts}
 use Rattle.sv_flat.specs.Expr.{Expr}
 use Rattle.sv_flat.specs.State.{View, Name, initial_of}
 use Rattle.sv_flat.specs.Eval.{value_of, element_count, vector_in, text, text_in, with_result, key_in}
-use Rattle.sv_flat.specs.Names.{form_exprs, inner_routines, forked, optional}
-use Rattle.sv_flat.specs.Targets.{with_reference, spots_of, target_values}
-use Rattle.sv_flat.specs.Process.{Todo, Do, Turn, Turns, Walk, Walk_elements, Start_children, Leave, Receive, Put, Held, Spot, Variable_of, Effect, Remain, Enter, Write, Contain, Suspend, Watches, Resume_at, Update_at, Spawn, Trigger_event, Drive_output, End_descendants, Print_text, Keep_print, Finish_run, ProcessState, routine_of, body_in, optional_body_in}
+use Rattle.sv_flat.specs.Names.{form_exprs, call_exprs, argument_exprs, target_exprs, optional_targets, form_calls, call_routines, inner_routines, forked, optional}
+use Rattle.sv_flat.specs.Targets.{with_reference, spots_of, target_values, as_type}
+use Rattle.sv_flat.specs.Process.{Todo, Do, Turn, Turns, Walk, Walk_elements, Start_children, Leave, Receive, Put, Output, Return, Held, Spot, Variable_of, Effect, Remain, Enter, Write, Contain, Suspend, Watches, Resume_at, Update_at, Spawn, Trigger_event, Drive_output, End_descendants, Print_text, Keep_print, Finish_run, ProcessState, types_of, routine_of, body_in, optional_body_in}
 use Rattle.sv_flat.specs.Statements.{executed, branch, returned, scheduled_for, with_items}
-use Rattle.sv_flat.specs.Statements.Shared.{Effects, Site, from_result, ending, goes_on, waits, value_in, values_of, written, assigned, count_of, counted, updates_for, fails}
+use Rattle.sv_flat.specs.Statements.Shared.{Effects, Site, from_result, ending, goes_on, waits, value_in, values_of, written, assigned, count_of, counted, updates_for, fails, result_write, with_through}
 use Rattle.sv_flat.specs.Statements.Containers.{with_container, items_in, key_value}
 use Rattle.sv_flat.specs.Statements.Delays.{ticks_of, at_moment, delayed}
 use Rattle.sv_flat.specs.Statements.Events.{queued, frozen}
-use Rattle.sv_flat.specs.Statements.Jumps.{after_break, after_continue, after_return, step_of}
+use Rattle.sv_flat.specs.Statements.Jumps.{after_break, after_continue, after_return, open_calls, step_of}
+use Rattle.sv_flat.specs.Statements.Calls.{called}
+use Rattle.sv_flat.specs.Statements.Routines.{variable_spot, variable_value, argument_write, argument_writes, output, outputs_of, result_given, needs_activation, callee_name, activation_entered, own_write, returns_to, subroutine_called, of_subroutine, routine_called, copied_out, given_value, left}
 use Rattle.sv_flat.specs.Statements.Loops.{turned, body_first, done_first, repeated, inside, entered_with, walk_turn, element_turn, element_index, int_type, next_index, name_or}
 use Rattle.sv_flat.specs.Statements.Matching.{chosen_item, any_label}
 use Rattle.sv_flat.specs.Statements.Synchronization.{fits, received}
-use Rattle.sv_flat.specs.Micro.{Looks, micro, run_first, statement_run, site, walked_on, element_on}
-use Rattle.sv_frame.proofs.Paths.{IsIn, in_left, IsRoutineOf, IsStmtOf, inner_of_side}
+use Rattle.sv_flat.specs.Micro.{Looks, micro, run_first, statement_run, site, first_site, walked_on, element_on}
+use Rattle.sv_frame.proofs.Ways.{IsIn, in_left, in_right, in_flat_map}
+use Rattle.sv_frame.proofs.Paths.{IsStartOf, IsRoutineOf, IsStmtOf, IsVariableNamed, start_of_side, inner_of_side, formal_named}
 use Rattle.sv_frame.proofs.Scopes.{IsScope}
-use Rattle.sv_frame.proofs.Home.{IsHome, AreNamed, form_named, all_in}
+use Rattle.sv_frame.proofs.Home.{IsHome, IsHomeOutput, IsHomeGiven, AreNamed, form_named, call_named, stmt_starts, form_starts, all_in}
 
 -- ---- what is shown here
 
--- all forms but calls and forks
+-- a call of a subroutine that is not virtual
+abbrev pub IsFramedCall : CallForm → Type 0
+IsFramedCall (call.Routine r e as') = Unit {0}
+IsFramedCall c = ⊥
+
+-- all forms but forks and other calls
 abbrev pub IsFramedForm : Form → Type 0
-IsFramedForm (form.Call c) = ⊥
+IsFramedForm (form.Call c) = IsFramedCall c.form
 IsFramedForm (form.Fork ts initializers children join) = ⊥
 IsFramedForm f = Unit {0}
 
--- what is left to run of such forms, without calls
+-- what is left to run of such forms and calls
 abbrev pub IsFramedTodo : Todo → Type 0
-IsFramedTodo (Do t cs outer hidden) = IsFramedForm t.form × (cs ≡ [])
-IsFramedTodo (Turn t scope) = IsFramedForm t.form × (t.calls ≡ [])
+IsFramedTodo (Do t cs outer hidden) = IsFramedForm t.form × AllByRecursion (λ c. IsFramedCall c.form) cs
+IsFramedTodo (Turn t scope) = IsFramedForm t.form × AllByRecursion (λ c. IsFramedCall c.form) t.calls
 IsFramedTodo (Start_children at cs j scope) = ⊥
-IsFramedTodo (Leave at r) = ⊥
 IsFramedTodo t = Unit {0}
 
 -- an effect that leaves nothing to run that does not stand in the bodies of the side
@@ -268,6 +282,152 @@ module _ (d : Parts) (ss : List Side) (s : Side) where
       by_label (Ok false) k = k
       by_label (Err e) k = tt
 
+  -- ---- calls
+
+  -- the routines that a call runs are of the side
+  abbrev StartsOf : CallForm → Type 0
+  StartsOf c = (x : RoutineId) → IsIn x (call_routines d c) → IsStartOf d s x
+
+  -- and those of the call that a form is
+  abbrev Starts : Form → Type 0
+  Starts f = (c : CallForm) → IsIn c (form_calls f) → StartsOf c
+
+  with_home : {A : Type 0} (r : Result A FaultKind) (P : A → Type 0) (go : A → Effects) → IfOk r P → ((x : A) → P x → HomeEffects (go x)) → HomeEffects (from_result r go)
+  with_home (Ok x) P go h k = k x h
+  with_home (Err e) P go h k = (tt, tt)
+
+  argument_home : (f : Formal) (e : Option Expr) (v : View) (callee : Option Name) → IfOk (argument_write f e v callee) HomeEffects
+  argument_home f None v callee = tt
+  argument_home f (Some e) v callee = by_value (value_of e v)
+    where
+      by_value : (r : Result Val FaultKind) → IfOk (with_result r (λ x. Ok (Write (variable_spot f.variable callee) (as_type f.ty x) ∷ []))) HomeEffects
+      by_value (Ok x) = (tt, tt)
+      by_value (Err k) = tt
+
+  arguments_home : (fs : List Formal) (as' : List Argument) (v : View) (callee : Option Name) → IfOk (argument_writes fs as' v callee) HomeEffects
+  arguments_home [] as' v callee = tt
+  arguments_home (f ∷ fs) [] v callee = tt
+  arguments_home (f ∷ fs) (a ∷ as') v callee = by_results (argument_write f a.value v callee) (argument_home f a.value v callee) (argument_writes fs as' v callee) (arguments_home fs as' v callee)
+    where
+      by_results : (r : Result Effects FaultKind) → IfOk r HomeEffects → (rs : Result Effects FaultKind) → IfOk rs HomeEffects
+          → IfOk (with_result r (λ w. with_result rs (λ ws. Ok (w ++ ws)))) HomeEffects
+      by_results (Ok w) h (Ok ws) k = both (IsHomeEffect d ss s) w ws h k
+      by_results (Ok w) h (Err e) k = tt
+      by_results (Err e) h rs k = tt
+
+  -- what the outputs name
+  output_home : (x : Variable) → IsVariableNamed d s x → (ts : Option (List Lvalue)) → AreNamed d s (target_exprs (optional_targets ts)) → AllByRecursion (IsHomeOutput d s) (output x ts)
+  output_home x h None k = tt
+  output_home x h (Some ts) k = ((h, k), tt)
+
+  outputs_home : (fs : List Formal) → ((f : Formal) → IsIn f fs → IsVariableNamed d s f.variable) → (as' : List Argument) → ((a : Argument) → IsIn a as' → AreNamed d s (argument_exprs a))
+      → AllByRecursion (IsHomeOutput d s) (outputs_of fs as')
+  outputs_home [] h as' k = tt
+  outputs_home (f ∷ fs) h [] k = tt
+  outputs_home (f ∷ fs) h (a ∷ as') k =
+      both (IsHomeOutput d s) (output f.variable a.targets) (outputs_of fs as')
+      (output_home f.variable (h f (inl refl)) a.targets (λ e i. k a (inl refl) e (in_right e (optional a.value) (target_exprs (optional_targets a.targets)) i)))
+      (outputs_home fs (λ g i. h g (inr i)) as' (λ b i. k b (inr i)))
+
+  result_home : (o : Option Formal) → ((f : Formal) → IsIn f (optional o) → IsVariableNamed d s f.variable) → IsHomeGiven d s (result_given o)
+  result_home None h = tt
+  result_home (Some f) h = h f (inl refl)
+
+  activation_home : (u : Subroutine) → HomeEffects (activation_entered u)
+  activation_home u = by_test (needs_activation u)
+    where
+      by_test : (y : Bool) → HomeEffects (if y then Enter (types_of u.locals) None ∷ [] else [])
+      by_test true = (tt, tt)
+      by_test false = tt
+
+  callee_scope : (u : Subroutine) (n : Name) → IsScope ss s (Some n) → IsScope ss s (callee_name u n)
+  callee_scope u n h = by_test (needs_activation u)
+    where
+      by_test : (y : Bool) → IsScope ss s (if y then Some n else None)
+      by_test true = h
+      by_test false = tt
+
+  subroutine_home : (here : Site) → IsScope ss s here.scope → IsScope ss s (Some here.next) → AtHome here.rest → (r : RoutineId) → IsStartOf d s r
+      → (as' : List Argument) → ((a : Argument) → IsIn a as' → AreNamed d s (argument_exprs a)) → (u : Subroutine) → (routine_of d r).subroutine ≡ Some u
+      → HomeEffects (subroutine_called d here r as' None [] u)
+  subroutine_home here js jn k r h as' n u is = by_depth (nat_le 1000 (open_calls here.rest))
+    where
+      callee : Option Name
+      callee = callee_name u here.next
+
+      jc : IsScope ss s callee
+      jc = callee_scope u here.next jn
+
+      named : (f : Formal) → IsIn f (u.formals ++ optional u.result) → IsVariableNamed d s f.variable
+      named = formal_named d s r h u is
+
+      left_to_run : List Todo
+      left_to_run = body_in d r callee ++ Leave here.at (returns_to here u as' None) ∷ here.rest
+
+      left_home : AtHome left_to_run
+      left_home =
+          both (IsHome d ss s) (body_in d r callee) (Leave here.at (returns_to here u as' None) ∷ here.rest) (body_home r (start_of_side d s r h) callee jc) (
+            (
+              outputs_home u.formals (λ f i. named f (in_left f u.formals (optional u.result) i)) as' n,
+              result_home u.result (λ f i. named f (in_right f u.formals (optional u.result) i)),
+              jc,
+              js,
+            ),
+            k,
+          )
+
+      by_depth : (y : Bool)
+          → HomeEffects (if y then fails fault.Depth else from_result (argument_writes u.formals as' here.view callee) (λ ws. goes_on left_to_run ([] ++ activation_entered u ++ own_write None u.formals callee ++ ws)))
+      by_depth true = (tt, tt)
+      by_depth false =
+          with_home (argument_writes u.formals as' here.view callee) HomeEffects _ (arguments_home u.formals as' here.view callee)
+          (λ ws w.
+          goes_home left_to_run left_home ([] ++ activation_entered u ++ own_write None u.formals callee ++ ws)
+          (both (IsHomeEffect d ss s) (activation_entered u ++ own_write None u.formals callee) ws (both (IsHomeEffect d ss s) (activation_entered u) [] (activation_home u) tt) w))
+
+  routine_home : (here : Site) → IsScope ss s here.scope → IsScope ss s (Some here.next) → AtHome here.rest → (r : RoutineId) → IsStartOf d s r
+      → (as' : List Argument) → ((a : Argument) → IsIn a as' → AreNamed d s (argument_exprs a)) → HomeEffects (routine_called d here r as' None [])
+  routine_home here js jn k r h as' n = by_subroutine (routine_of d r).subroutine refl
+    where
+      by_subroutine : (o : Option Subroutine) → (routine_of d r).subroutine ≡ o → HomeEffects (of_subroutine d here r as' None [] o)
+      by_subroutine None e = goes_home here.rest k [] tt
+      by_subroutine (Some u) e = subroutine_home here js jn k r h as' n u e
+
+  through_home : (e : Option Expr) (v : View) (es : Effects) → HomeEffects es → HomeEffects (with_through e v es)
+  through_home None v es h = h
+  through_home (Some e) v es h = from_home (with_reference e v (λ k. Ok k)) _ (λ k. h)
+
+  called_home : (p : ProcessId) (here : Site) → IsScope ss s here.scope → IsScope ss s (Some here.next) → AtHome here.rest → (c : CallForm) → IsFramedCall c → StartsOf c
+      → AreNamed d s (call_exprs c) → HomeEffects (called d p here c)
+  called_home p here js jn k (call.Routine r e as') f g n =
+      through_home e here.view (routine_called d here r as' None [])
+      (routine_home here js jn k r (g r (inl refl)) as' (λ a i x j. n x (in_right x (optional e) (flat_map argument_exprs as') (in_flat_map argument_exprs a x as' i j))))
+  called_home p here js jn k c f g n = absurd f
+
+  -- the end of a call
+  given_home : (i : Option ℕ) (scope : Option Name) (x : Val) → HomeEffects (result_write i scope x)
+  given_home None scope x = tt
+  given_home (Some i) None x = tt
+  given_home (Some i) (Some n) x = (tt, tt)
+
+  copied_home : (os : List Output) (callee caller : View) → IfOk (copied_out os callee caller) HomeEffects
+  copied_home [] callee caller = tt
+  copied_home (o ∷ os) callee caller = by_results (spots_of o.targets caller) (copied_out os callee caller) (copied_home os callee caller)
+    where
+      xs : List Val
+      xs = target_values o.targets (variable_value o.formal callee)
+
+      by_results : (r : Result (List Spot) FaultKind) (rs : Result Effects FaultKind) → IfOk rs HomeEffects → IfOk (with_result r (λ ss. with_result rs (λ ws. Ok (written ss xs ++ ws)))) HomeEffects
+      by_results (Ok us) (Ok ws) k = both (IsHomeEffect d ss s) (written us xs) ws (written_home us xs) k
+      by_results (Ok us) (Err e) k = tt
+      by_results (Err e) rs k = tt
+
+  left_home : (r : Return) (callee caller : View) (rest : List Todo) → AtHome rest → HomeEffects (left r callee caller rest)
+  left_home r callee caller rest k =
+      let x = given_value r.given callee in
+      with_home (copied_out r.outputs callee caller) HomeEffects _ (copied_home r.outputs callee caller)
+      (λ ws w. goes_home rest k (ws ++ result_write r.hidden r.caller x) (both (IsHomeEffect d ss s) ws (result_write r.hidden r.caller x) w (given_home r.hidden r.caller x)))
+
   -- ---- each form
 
   module _ (p : ProcessId) (t : Stmt) (at : IsStmtOf d s t) (outer : Option Name) (jo : IsScope ss s outer) (here : Site) (js : IsScope ss s here.scope) (jn : IsScope ss s (Some here.next)) (k : AtHome here.rest) where
@@ -313,62 +473,67 @@ module _ (d : Parts) (ss : List Side) (s : Side) where
     returns ts None = goes_home (after_return here.rest) (return_home here.rest k) [] tt
     returns ts (Some e) = from_home (spots_of ts here.view) _ (λ ss. value_home e here.view _ (λ x. goes_home (after_return here.rest) (return_home here.rest k) _ (written_home ss (target_values ts x))))
 
-    form_home : (m : Form) → IsFramedForm m → Inner m → AreNamed d s (form_exprs m) → HomeEffects (executed d p t m outer here)
-    form_home form.Null f i n = on [] tt
-    form_home (form.Block ts body) f i n = before_rest (body_in d body (inside ts outer here.next)) (body_home body (i body (inl refl)) (inside ts outer here.next) (inside_scope ts outer here.next jo jn)) (entered_with ts outer) (entered_home ts outer jo)
-    form_home (form.Assign ts e) f i n = from_home (spots_of ts here.view) _ (λ ss. value_home e here.view _ (λ x. writes ts x ss))
-    form_home (form.AssignAfter ts e delay in_ticks) f i n =
+    form_home : (m : Form) → IsFramedForm m → Inner m → AreNamed d s (form_exprs m) → Starts m → HomeEffects (executed d p t m outer here)
+    form_home form.Null f i n g = on [] tt
+    form_home (form.Block ts body) f i n g = before_rest (body_in d body (inside ts outer here.next)) (body_home body (i body (inl refl)) (inside ts outer here.next) (inside_scope ts outer here.next jo jn)) (entered_with ts outer) (entered_home ts outer jo)
+    form_home (form.Assign ts e) f i n g = from_home (spots_of ts here.view) _ (λ ss. value_home e here.view _ (λ x. writes ts x ss))
+    form_home (form.AssignAfter ts e delay in_ticks) f i n g =
         value_home delay here.view _ (λ m. value_home e here.view _ (λ x. (((λ a j. n a (inr (inr j)), js), k), delayed_home (ticks_of in_ticks (vector_in m) here.view) here.view)))
-    form_home (form.Nonblocking ts e None in_ticks) f i n = from_home (spots_of ts here.view) _ (λ ss. value_home e here.view _ (λ x. schedules ts x 0 ss))
-    form_home (form.Nonblocking ts e (Some delay) in_ticks) f i n =
+    form_home (form.Nonblocking ts e None in_ticks) f i n g = from_home (spots_of ts here.view) _ (λ ss. value_home e here.view _ (λ x. schedules ts x 0 ss))
+    form_home (form.Nonblocking ts e (Some delay) in_ticks) f i n g =
         value_home delay here.view _ (λ m. value_home e here.view _ (λ x. from_home (spots_of ts here.view) _ (λ ss. schedules ts x (ticks_of in_ticks (vector_in m) here.view) ss)))
-    form_home (form.If e a b) f i n =
+    form_home (form.If e a b) f i n g =
         value_home e here.view _ (λ x. before_rest (branch d (is_true (vector_in x)) a b outer) (branches (is_true (vector_in x)) a b (i a (inl refl)) (other_branch e a b i)) [] tt)
-    form_home (form.Case m e items other) f i n =
+    form_home (form.Case m e items other) f i n g =
         value_home e here.view _ (λ x. chosen (chosen_item m x items other here.view) (chosen_home m x items other here.view (λ r j. i r (in_left r (map (λ a. a.body) items ++ optional other) [] j))))
-    form_home (form.While e body step) f i n = value_home e here.view _ (λ x. tested (is_true (vector_in x)) body step (i body (inl refl)) (step_home (form.While e body step) i))
-    form_home (form.Do again) f i n = goes_home _ (done_home again (i again (inl refl)) outer jo here.rest k) [] tt
-    form_home (form.Repeat e body) f i n = value_home e here.view _ (λ x. repeated_home here.at (unwrap_or (count_of (vector_in x)) 0) body (i body (inl refl)) outer jo here.rest k)
-    form_home (form.Forever body) f i n = goes_home _ (turned_home t at body (i body (inl refl)) None tt outer jo here.rest k) [] tt
-    form_home (form.Foreach c ty body) f i n =
+    form_home (form.While e body step) f i n g = value_home e here.view _ (λ x. tested (is_true (vector_in x)) body step (i body (inl refl)) (step_home (form.While e body step) i))
+    form_home (form.Do again) f i n g = goes_home _ (done_home again (i again (inl refl)) outer jo here.rest k) [] tt
+    form_home (form.Repeat e body) f i n g = value_home e here.view _ (λ x. repeated_home here.at (unwrap_or (count_of (vector_in x)) 0) body (i body (inl refl)) outer jo here.rest k)
+    form_home (form.Forever body) f i n g = goes_home _ (turned_home t at body (i body (inl refl)) None tt outer jo here.rest k) [] tt
+    form_home (form.Foreach c ty body) f i n g =
         container_home c here.view _ (λ h q. walk_home t at body (i body (inl refl)) (next_index q None) outer jo here.next jn here.rest k (Enter (ty ∷ []) outer ∷ []) (jo, tt))
-    form_home (form.ForeachElement b body) f i n = element_home t at b body (i body (inl refl)) 0 here.next jn here.rest k (Enter (int_type ∷ []) outer ∷ []) (jo, tt)
-    form_home form.Break f i n = goes_home (after_break here.rest) (break_home here.rest k) [] tt
-    form_home form.Continue f i n = goes_home (after_continue d here.rest) (continue_home here.rest k) [] tt
-    form_home (form.Return ts e) f i n = returns ts e
-    form_home (form.Call c) f i n = absurd f
-    form_home (form.Evaluate e) f i n = value_home e here.view _ (λ x. on [] tt)
-    form_home (form.Delay e in_ticks) f i n = value_home e here.view _ (λ m. (k, delayed_home (ticks_of in_ticks (vector_in m) here.view) here.view))
-    form_home (form.At ws) f i n = (k, (tt, tt))
-    form_home (form.AtEvent e) f i n = (k, queued_home (key_in (value_of e here.view)))
-    form_home (form.Cycles c e) f i n =
+    form_home (form.ForeachElement b body) f i n g = element_home t at b body (i body (inl refl)) 0 here.next jn here.rest k (Enter (int_type ∷ []) outer ∷ []) (jo, tt)
+    form_home form.Break f i n g = goes_home (after_break here.rest) (break_home here.rest k) [] tt
+    form_home form.Continue f i n g = goes_home (after_continue d here.rest) (continue_home here.rest k) [] tt
+    form_home (form.Return ts e) f i n g = returns ts e
+    form_home (form.Call c) f i n g = called_home p (record here { hidden = c.result }) js jn k c.form f (g c.form (inl refl)) n
+    form_home (form.Evaluate e) f i n g = value_home e here.view _ (λ x. on [] tt)
+    form_home (form.Delay e in_ticks) f i n g = value_home e here.view _ (λ m. (k, delayed_home (ticks_of in_ticks (vector_in m) here.view) here.view))
+    form_home (form.At ws) f i n g = (k, (tt, tt))
+    form_home (form.AtEvent e) f i n g = (k, queued_home (key_in (value_of e here.view)))
+    form_home (form.Cycles c e) f i n g =
         value_home e here.view _ (λ x. counted_home (count_of (vector_in x)) _ (λ m. cycled (m == 0) m (Suspend (Watches (Updates c m ∷ []) here.scope) ∷ []) (tt, tt)))
-    form_home (form.Wait e) f i n = value_home e here.view _ (λ x. waited (is_true (vector_in x)) e)
-    form_home (form.Fork ts initializers children join) f i n = absurd f
-    form_home form.WaitFork f i n = (k, (tt, ending_home here.rest))
-    form_home form.DisableFork f i n = on (End_descendants ∷ []) (tt, tt)
-    form_home (form.Trigger e) f i n = from_home (with_reference e here.view (λ key. Ok key)) (λ key. goes_on here.rest (Trigger_event key ∷ [])) (λ key. on (Trigger_event key ∷ []) (tt, tt))
-    form_home (form.Drive c signal e) f i n = value_home e here.view _ (λ x. on (Drive_output c signal (vector_in x) ∷ []) (tt, tt))
-    form_home (form.Print print.Now pieces es) f i n =
+    form_home (form.Wait e) f i n g = value_home e here.view _ (λ x. waited (is_true (vector_in x)) e)
+    form_home (form.Fork ts initializers children join) f i n g = absurd f
+    form_home form.WaitFork f i n g = (k, (tt, ending_home here.rest))
+    form_home form.DisableFork f i n g = on (End_descendants ∷ []) (tt, tt)
+    form_home (form.Trigger e) f i n g = from_home (with_reference e here.view (λ key. Ok key)) (λ key. goes_on here.rest (Trigger_event key ∷ [])) (λ key. on (Trigger_event key ∷ []) (tt, tt))
+    form_home (form.Drive c signal e) f i n g = value_home e here.view _ (λ x. on (Drive_output c signal (vector_in x) ∷ []) (tt, tt))
+    form_home (form.Print print.Now pieces es) f i n g =
         from_home (values_of es here.view) _ (λ xs. from_home (text (rendered here.view.unit pieces xs)) _ (λ x. on (Print_text (text_in x) ∷ []) (tt, tt)))
-    form_home (form.Print print.Strobe pieces es) f i n = on (Keep_print print.Strobe pieces es ∷ []) (tt, tt)
-    form_home (form.Print print.Monitor pieces es) f i n = on (Keep_print print.Monitor pieces es ∷ []) (tt, tt)
-    form_home (form.CopyContainer c source) f i n =
+    form_home (form.Print print.Strobe pieces es) f i n g = on (Keep_print print.Strobe pieces es ∷ []) (tt, tt)
+    form_home (form.Print print.Monitor pieces es) f i n g = on (Keep_print print.Monitor pieces es ∷ []) (tt, tt)
+    form_home (form.CopyContainer c source) f i n g =
         container_home c here.view _ (λ h old. container_home source here.view (λ m q. goes_on here.rest (Contain h q ∷ [])) (λ m q. on (Contain h q ∷ []) (tt, tt)))
-    form_home (form.Resize c e source ty) f i n =
+    form_home (form.Resize c e source ty) f i n g =
         container_home c here.view _ (λ h q. value_home e here.view _ (λ x. items_home source here.view _ (λ old.
         counted_home (count_of (vector_in x)) (λ m. goes_on here.rest (Contain h (Items false (resized_to m (initial_of ty) old)) ∷ [])) (λ m.
         on (Contain h (Items false (resized_to m (initial_of ty) old)) ∷ []) (tt, tt)))))
-    form_home form.Finish f i n = on (Finish_run ∷ []) (tt, tt)
-    form_home form.Exit f i n = (k, (tt, tt))
+    form_home form.Finish f i n g = on (Finish_run ∷ []) (tt, tt)
+    form_home form.Exit f i n g = (k, (tt, tt))
 
   -- ---- the next step
 
   module _ (look : Looks) (p : ProcessId) (name : Name) (jn : IsScope ss s (Some name)) where
-    run_home : (t : Stmt) → IsStmtOf d s t → IsFramedForm t.form → (outer hidden : Option Name) → IsScope ss s outer → IsScope ss s hidden → (rest : List Todo) → AtHome rest
-        → HomeEffects (statement_run d look p name t [] outer hidden rest)
-    run_home t h f outer None j l rest k = form_home p t h outer j (site d look p name t.at outer rest) j jn k t.form f (inner t h) (form_named d s t h)
-    run_home t h f outer (Some n) j l rest k = form_home p t h outer j (site d look p name t.at (Some n) rest) l jn k t.form f (inner t h) (form_named d s t h)
+    run_home : (t : Stmt) → IsStmtOf d s t → IsFramedForm t.form → (cs : List Call) → AllByRecursion (λ c. IsIn c t.calls) cs → AllByRecursion (λ c. IsFramedCall c.form) cs
+        → (outer hidden : Option Name) → IsScope ss s outer → IsScope ss s hidden → (rest : List Todo) → AtHome rest → HomeEffects (statement_run d look p name t cs outer hidden rest)
+    run_home t h f [] i c outer None j l rest k = form_home p t h outer j (site d look p name t.at outer rest) j jn k t.form f (inner t h) (form_named d s t h) (form_starts d s t h)
+    run_home t h f [] i c outer (Some n) j l rest k = form_home p t h outer j (site d look p name t.at (Some n) rest) l jn k t.form f (inner t h) (form_named d s t h) (form_starts d s t h)
+    run_home t h f (x ∷ cs) i c outer None j l rest k =
+        (j, called_home p (first_site d look p name t.at outer x.result (Do t cs outer (Some name) ∷ rest)) jn jn ((h, i.1, j, jn), k) x.form c.0 (stmt_starts d s t h x i.0) (call_named d s t h x i.0))
+    run_home t h f (x ∷ cs) i c outer (Some n) j l rest k =
+        called_home p (record (site d look p name t.at (Some n) (Do t cs outer (Some n) ∷ rest)) { hidden = x.result }) l jn ((h, i.1, j, l), k) x.form c.0 (stmt_starts d s t h x i.0)
+        (call_named d s t h x i.0)
 
     walk_scope : (scope : Option Name) → IsScope ss s scope → IsScope ss s (Some (name_or name scope))
     walk_scope None h = jn
@@ -397,15 +562,13 @@ module _ (d : Parts) (ss : List Side) (s : Side) where
 
     first_of : (handed : Option Message) (ts : List Todo) → AtHome ts → AllByRecursion IsFramedTodo ts → HomeEffects (run_first d look p name handed ts)
     first_of m [] h f = (tt, tt)
-    first_of m (Do t cs outer hidden ∷ rest) h f =
-        subst (λ cs. HomeEffects (statement_run d look p name t cs outer hidden rest)) (sym f.0.1) (run_home t h.0.0 f.0.0 outer hidden h.0.2 h.0.3 rest h.1)
-    first_of m (Turn t scope ∷ rest) h f =
-        subst (λ cs. HomeEffects (statement_run d look p name t cs scope None rest)) (sym f.0.1) (run_home t h.0.0 f.0.0 scope None h.0.1 tt rest h.1)
+    first_of m (Do t cs outer hidden ∷ rest) h f = run_home t h.0.0 f.0.0 cs h.0.1 f.0.1 outer hidden h.0.2 h.0.3 rest h.1
+    first_of m (Turn t scope ∷ rest) h f = run_home t h.0.0 f.0.0 t.calls (all_in t.calls) f.0.1 scope None h.0.1 tt rest h.1
     first_of m (Turns at n b scope ∷ rest) h f = repeated_home at n b h.0.0 scope h.0.1 rest h.1
     first_of m (Walk t i outer scope ∷ rest) h f = walked_home t h.0.0 t.form (inner t h.0.0) i outer scope h.0.1 h.0.2 rest h.1
     first_of m (Walk_elements t n scope ∷ rest) h f = elements_home t h.0.0 t.form (inner t h.0.0) n scope h.0.1 rest h.1
     first_of m (Start_children at cs j scope ∷ rest) h f = absurd f.0
-    first_of m (Leave at r ∷ rest) h f = absurd f.0
+    first_of m (Leave at r ∷ rest) h f = left_home r (look r.callee) (look r.caller) rest h.1
     first_of None (Receive at ts w scope ∷ rest) h f = goes_home rest h.1 [] tt
     first_of (Some m) (Receive at ts w scope ∷ rest) h f = received_home ts w m (look scope) rest h.1
     first_of m (Put at ts x scope ∷ rest) h f = assigned_home ts x (look scope) rest h.1

@@ -22,10 +22,10 @@ use Rattle.sv_sound.proofs.Reached.{ready_known, calm, now_is, states_then, now_
 use Rattle.sv_sense.specs.Sensed.{Covers}
 use Rattle.sv_machine.specs.declared.machine.Machine.{Machine}
 use Rattle.sv_machine.specs.Waits.{awaited, awaited_by}
-use Rattle.sv_machine.specs.Machine.{Picture, of_machine, of_config, Tracks, rest_of, was_taken}
+use Rattle.sv_machine.specs.Machine.{Picture, of_machine, of_config, Tracks, rest_of, was_taken, made_of}
 use Rattle.sv_machine.specs.Starts.{held_from, Takes}
 use Rattle.sv_machine.specs.Wakes.{side_at, side_in_design, all_ready, IsKnown}
-use Rattle.sv_machine.proofs.WakeLaws.{rest_stays, taken_stays, pending_by_taken}
+use Rattle.sv_machine.proofs.WakeLaws.{rest_stays, taken_stays, made_stays, pending_by_taken}
 use Rattle.sv_machine.proofs.EffectLaws.{map_set, set_same, not_awaited}
 
 and_false : (b : Bool) → (b && false) ≡ false
@@ -165,7 +165,8 @@ module _ (d : Parts) (m : Machine) (p : ProcessId) (c : Config) (place : ℕ) (h
     now_picture =
         let a = map_set_same rest_of c.processes p.0 q v is refl in
         let b = map_set_same awaited_by c.processes p.0 q v is (sym calm_is) in
-        λ i. record (of_config d now) { remaining = a i; waiting = b i; taken = map_set was_taken c.processes p.0 v i }
+        let k = map_set_same made_of c.processes p.0 q v is refl in
+        λ i. record (of_config d now) { made = k i; remaining = a i; waiting = b i; taken = map_set was_taken c.processes p.0 v i }
 
     starters_are : m.starters ≡ pending_count d.processes c.processes
     starters_are = ap (λ (y : Picture). y.starters) h.stands.picture
@@ -321,6 +322,7 @@ module _ (d : Parts) (m : Machine) (p : ProcessId) (c : Config) (place : ℕ) (h
         let b = waits_stay test 0 now.processes (held_are w t) in
         let o = taken_stays test 0 now.processes in
         let j = pending_by_taken d.processes now.processes started.processes o in
+        let z = made_stays test 0 now.processes in
         subst (Tracks d n) (sym ((λ i. combs_started d (one i) (takes_now i)) ∙ all)) (record {
           time = ap (λ (x : Machine). x.time) e ∙ ap (λ (y : Picture). y.time) h.stands.picture;
           fault = ap (λ (x : Machine). x.fault) e ∙ h.fault;
@@ -329,7 +331,7 @@ module _ (d : Parts) (m : Machine) (p : ProcessId) (c : Config) (place : ℕ) (h
                 ∙ (λ i. record (of_machine d m) { running = Some p; taken = u i; starters = x i; regions = (r ∙ rs) i })
                 ∙ (λ i. record (h.stands.picture i) { running = Some p; taken = slice_set (h.stands.picture i).taken p.0 true; starters = pending_count d.processes now.processes; regions = started.regions })
                 ∙ (λ i. record (sym now_picture i) { regions = started.regions })
-                ∙ (λ i. record (of_config d started) { remaining = sym a i; waiting = sym b i; taken = sym o i; starters = sym j i });
+                ∙ (λ i. record (of_config d started) { made = sym z i; remaining = sym a i; waiting = sym b i; taken = sym o i; starters = sym j i });
             covers = subst (Covers d) (sym (ap (λ (x : Machine). x.sense) e)) h.stands.covers;
             last = (let a = ap (λ (x : Machine). x.wheel.last) e in let b = ap (λ (x : Machine). x.time) e in let k = h.stands.last in omega (arith, a, b, k));
           };

@@ -1,6 +1,7 @@
 -- What each effect makes of the machine and of the configuration for which it stands.
-use Rattle.std.proofs.Common.{ℕ, zero, suc, ◌≡◌, Bool, true, false, List, [], ◌∷◌, ◌++◌, Option, None, Some, refl, ap, subst, sym, ◌∙◌, arith, map, slice_get, slice_set}
-use Rattle.std.specs.Prelude.{◌==◌, if◌then◌else◌}
+use Rattle.std.proofs.Common.{ℕ, zero, suc, ◌≡◌, ◌+◌, Bool, true, false, List, [], ◌∷◌, ◌++◌, Option, None, Some, refl, ap, subst, sym, ◌∙◌, arith, map, slice_get, slice_set}
+use Rattle.std.specs.Prelude.{◌==◌, if◌then◌else◌, unwrap_or, slice_index_or}
+use Rattle.std.proofs.lemmas.Option.{unwrap_or-slice_get}
 use Rattle.std.proofs.lemmas.List.{map-append}
 use Rattle.sv_value.specs.declared.number.ProcessId.{ProcessId}
 use Rattle.sv_value.specs.declared.place.Place.{Place}
@@ -14,6 +15,8 @@ use Rattle.sv_flat.specs.declared.stmt.Stmt.{Stmt}
 use Rattle.sv_flat.specs.declared.stmt.Form.{Form}
 use Rattle.sv_flat.specs.declared.stmt.Form.TheVariants as form
 use Rattle.sv_flat.specs.declared.process.Watch.{Watch}
+use Rattle.sv_flat.specs.declared.object.DataType.{DataType}
+use Rattle.sv_flat.specs.State.{Name, Activation, first_value}
 use Rattle.sv_flat.specs.declared.design.Parts.{Parts}
 use Rattle.sv_flat.specs.Process
 use Rattle.sv_flat.specs.Process.{ProcessState, Status, Ready, Running, Waiting, Moment, Turn_in_slot, Watches, Children, Queue, Start, Todo, Effect, Remain, Write, Suspend, Resume_at, Update_at, Print_text, Keep_print, Finish_run, End, Fail, body_in}
@@ -24,7 +27,7 @@ use Rattle.sv_built.specs.declared.wait.Wait.TheVariants as wait
 use Rattle.sv_built.specs.Positions.{stmt_at}
 use Rattle.sv_built.specs.Waits.{watches_at}
 use Rattle.sv_sound.specs.Sound.{is_parked}
-use Rattle.sv_sound.specs.After.{with_state, remaining, waiting_until, turned, watching, over, recorded, strobe_kept}
+use Rattle.sv_sound.specs.After.{entered_by, with_state, remaining, waiting_until, turned, watching, over, recorded, strobe_kept}
 use Rattle.sv_sound.proofs.Weights.{there, map_at, map_set_same}
 use Rattle.sv_sound.proofs.EffectSound.{running_known, runs_calm, found}
 use Rattle.sv_process.specs.Frames.{todos_of}
@@ -32,8 +35,9 @@ use Rattle.sv_sense.specs.Sensed.{Covers}
 use Rattle.sv_machine.specs.declared.machine.Machine.{Machine}
 use Rattle.sv_machine.specs.declared.machine.Kept.{Kept}
 use Rattle.sv_machine.specs.Waits.{awaited, awaited_at, awaited_by}
-use Rattle.sv_machine.specs.Machine.{Picture, of_machine, of_config, Tracks, StandsFor, rest_of, was_taken, printing, strobe_of, strobe_at}
+use Rattle.sv_machine.specs.Machine.{Picture, of_machine, of_config, Tracks, StandsFor, rest_of, was_taken, made_of, printing, strobe_of, strobe_at}
 use Rattle.sv_machine.specs.Wakes.{side_at, side_in_design}
+use Rattle.sv_arena.specs.Made.{entered}
 use Rattle.sv_machine.specs.Steps.{turned_in, WaitsFor, resuming_at, updating_at, Remains, IsOver, WaitsAgain}
 use Rattle.sv_machine.proofs.WakeLaws.{pending_by_taken}
 
@@ -80,12 +84,14 @@ module _ (d : Parts) (m : Machine) (c : Config) (h : StandsFor d m c) (p : Proce
     side_of_state = let f = found d c h.sound p q is in ap side_in_design f.at ∙ sym f.state.side
 
     -- the process in another state
-    pub state_picture : (v : ProcessState) → v.was_taken ≡ q.was_taken → of_config d (with_state p v c)
+    pub state_picture : (v : ProcessState) → v.was_taken ≡ q.was_taken → v.made ≡ q.made → of_config d (with_state p v c)
         ≡ record (of_config d c) { remaining = slice_set (map rest_of c.processes) p.0 v.rest; waiting = slice_set (map awaited_by c.processes) p.0 (awaited_by v) }
-    state_picture v e =
+    state_picture v e f =
+        let k = map_set_same made_of c.processes p.0 q v is f in
         let t = map_set_same was_taken c.processes p.0 q v is e in
         let n = pending_by_taken d.processes c.processes (slice_set c.processes p.0 v) t in
         λ i. record (of_config d c) {
+          made = k i;
           remaining = map_set rest_of c.processes p.0 v i;
           waiting = map_set awaited_by c.processes p.0 v i;
           taken = t i;
@@ -102,7 +108,7 @@ module _ (d : Parts) (m : Machine) (c : Config) (h : StandsFor d m c) (p : Proce
     pub still_picture : (s : Status) → awaited s ≡ None → of_config d (with_state p (record q { latest = s }) c) ≡ of_config d c
     still_picture s e =
         let v : ProcessState = record q { latest = s } in
-        state_picture v refl
+        state_picture v refl refl
         ∙ (λ i. record (of_config d c) { remaining = rest_stays i; waiting = slice_set (map awaited_by c.processes) p.0 (e i) })
         ∙ (λ i. record (of_config d c) { waiting = waits_stay i })
 
@@ -123,9 +129,9 @@ module _ (d : Parts) (m : Machine) (c : Config) (h : StandsFor d m c) (p : Proce
           };
         }
 
-    pub watch_tracks : (w : Wait) (n : Machine) → WaitsFor d p w m n → Tracks d n (watching p q (watches_at d w) c)
-    watch_tracks w n k =
-        let v : ProcessState = record q { latest = Waiting (Watches (watches_at d w) None) } in
+    pub watch_tracks : (w : Wait) (scope : Option Name) (n : Machine) → WaitsFor d p w m n → Tracks d n (watching p q (watches_at d w) scope c)
+    watch_tracks w scope n k =
+        let v : ProcessState = record q { latest = Waiting (Watches (watches_at d w) scope) } in
         record {
           time = ap (λ (x : Machine). x.time) k.is ∙ ap (λ (x : Picture). x.time) same;
           fault = ap (λ (x : Machine). x.fault) k.is ∙ h.fault;
@@ -135,7 +141,7 @@ module _ (d : Parts) (m : Machine) (c : Config) (h : StandsFor d m c) (p : Proce
                 ∙ (λ i. record (of_machine d m) { running = None; waiting = map_set (awaited_at d) m.sense.waits p.0 (Some w) i })
                 ∙ (λ i. record (same i) { running = None; waiting = slice_set (same i).waiting p.0 (awaited_at d (Some w)) })
                 ∙ (λ i. record (of_config d c) { running = None; remaining = rest_stays' i; waiting = slice_set (map awaited_by c.processes) p.0 (awaited_by v) })
-                ∙ (λ i. record (sym (state_picture v refl) i) { running = None });
+                ∙ (λ i. record (sym (state_picture v refl refl) i) { running = None });
             covers = k.covers;
             last = (let a = ap (λ (x : Machine). x.wheel.last) k.is in let b = ap (λ (x : Machine). x.time) k.is in let l = h.stands.last in omega (arith, a, b, l));
           };
@@ -171,7 +177,7 @@ module _ (d : Parts) (m : Machine) (c : Config) (h : StandsFor d m c) (p : Proce
                 ∙ (λ i. record (of_machine d m) { running = None; remaining = k.left.remaining i })
                 ∙ (λ i. record (same i) { running = None; remaining = slice_set (same i).remaining p.0 [] })
                 ∙ (λ i. record (of_config d c) { running = None; remaining = slice_set (map rest_of c.processes) p.0 []; waiting = sym waits_stay i })
-                ∙ (λ i. record (sym (state_picture v refl) i) { running = None });
+                ∙ (λ i. record (sym (state_picture v refl refl) i) { running = None });
             covers = subst (Covers d) (sym (ap (λ (x : Machine). x.sense) k.is)) h.stands.covers;
             last = (let a = ap (λ (x : Machine). x.wheel.last) k.is in let b = ap (λ (x : Machine). x.time) k.is in let l = h.stands.last in omega (arith, a, b, l));
           };
@@ -188,7 +194,7 @@ module _ (d : Parts) (m : Machine) (c : Config) (h : StandsFor d m c) (p : Proce
                 ∙ (λ i. record (of_machine d m) { remaining = l.remaining i })
                 ∙ (λ i. record (same i) { remaining = slice_set (same i).remaining p.0 rest })
                 ∙ (λ i. record (of_config d c) { remaining = slice_set (map rest_of c.processes) p.0 rest; waiting = sym (waits_still) i })
-                ∙ sym (state_picture v refl);
+                ∙ sym (state_picture v refl refl);
             covers = subst (Covers d) (sym (ap (λ (x : Machine). x.sense) k)) h.stands.covers;
             last = (let a = ap (λ (x : Machine). x.wheel.last) k in let b = ap (λ (x : Machine). x.time) k in let l = h.stands.last in omega (arith, a, b, l));
           };
@@ -198,7 +204,7 @@ module _ (d : Parts) (m : Machine) (c : Config) (h : StandsFor d m c) (p : Proce
         waits_still = set_same (map awaited_by c.processes) p.0 (awaited_by q) (map_at awaited_by c.processes p.0 q is)
 
     pub again_tracks : (f : Process) (ws : List Watch) (n : Machine) → watches_at d (wait.Watched p) ≡ ws → WaitsAgain d f p m n
-        → Tracks d n (watching p (record q { rest = body_in d f.body None }) ws c)
+        → Tracks d n (watching p (record q { rest = body_in d f.body None }) ws None c)
     again_tracks f ws n e k =
         let v : ProcessState = record q { rest = body_in d f.body None; latest = Waiting (Watches ws None) } in
         record {
@@ -208,10 +214,54 @@ module _ (d : Parts) (m : Machine) (c : Config) (h : StandsFor d m c) (p : Proce
             picture = ap (of_machine d) k.is
                 ∙ (λ i. record (of_machine d m) { running = None; remaining = k.left.remaining i; waiting = map (awaited_at d) (k.waits i) })
                 ∙ (λ i. record (of_machine d m) { running = None; remaining = slice_set (map (todos_of d) m.processes.items) p.0 (body_in d f.body None); waiting = map_set (awaited_at d) m.sense.waits p.0 (Some (wait.Watched p)) i })
-                ∙ (λ i. record (same i) { running = None; remaining = slice_set (same i).remaining p.0 (body_in d f.body None); waiting = slice_set (same i).waiting p.0 (Some (record { watches = e i; scope = None })) })
-                ∙ (λ i. record (sym (state_picture v refl) i) { running = None });
+                ∙ (λ i. record (same i) { running = None; remaining = slice_set (same i).remaining p.0 (body_in d f.body None); waiting = slice_set (same i).waiting p.0 (Some (e i)) })
+                ∙ (λ i. record (sym (state_picture v refl refl) i) { running = None });
             covers = k.covers;
             last = (let a = ap (λ (x : Machine). x.wheel.last) k.is in let b = ap (λ (x : Machine). x.time) k.is in let l = h.stands.last in omega (arith, a, b, l));
+          };
+        }
+
+    -- ---- activations
+
+    -- how many activations the process made
+    pub made_is : slice_index_or (map made_of c.processes) p.0 0 ≡ q.made
+    made_is = sym (unwrap_or-slice_get (map made_of c.processes) p.0 0) ∙ ap (λ (o : Option ℕ). unwrap_or o 0) (map_at made_of c.processes p.0 q is)
+
+    entered_picture : (ts : List DataType) (around : Option Name) → of_config d (entered_by p q ts around c)
+        ≡ record (of_config d c) {
+          activations = c.activations ++ record { name = record { process = p; place = q.made }; around = around; values = map first_value ts } ∷ [];
+          made = slice_set (map made_of c.processes) p.0 (q.made + 1);
+        }
+    entered_picture ts around =
+        let v : ProcessState = record q { made = q.made + 1 } in
+        let a = map_set_same rest_of c.processes p.0 q v is refl in
+        let w = map_set_same awaited_by c.processes p.0 q v is refl in
+        let t = map_set_same was_taken c.processes p.0 q v is refl in
+        let n = pending_by_taken d.processes c.processes (slice_set c.processes p.0 v) t in
+        λ i. record (of_config d (entered_by p q ts around c)) {
+          made = map_set made_of c.processes p.0 v i;
+          remaining = a i;
+          waiting = w i;
+          taken = t i;
+          starters = n i;
+        }
+
+    pub enter_tracks : (ts : List DataType) (around : Option Name)
+        → Tracks d (record m { activations = entered m.activations p around (map first_value ts) }) (entered_by p q ts around c)
+    enter_tracks ts around =
+        let one : ℕ → Activation = λ k. record { name = record { process = p; place = k }; around = around; values = map first_value ts } in
+        record {
+          time = ap (λ (x : Picture). x.time) same;
+          fault = h.fault;
+          going = λ g. record {
+            picture = (λ i. record (same i) {
+              activations = (same i).activations ++ one (slice_index_or (same i).made p.0 0) ∷ [];
+              made = slice_set (same i).made p.0 (slice_index_or (same i).made p.0 0 + 1);
+            })
+                ∙ (λ i. record (of_config d c) { activations = c.activations ++ one (made_is i) ∷ []; made = slice_set (map made_of c.processes) p.0 (made_is i + 1) })
+                ∙ sym (entered_picture ts around);
+            covers = h.stands.covers;
+            last = h.stands.last;
           };
         }
 

@@ -1,15 +1,15 @@
 -- Each effect, as it occurs: what the machine stands for then, and what is printed.
 use Rattle.std.proofs.Common.{ℕ, ◌≡◌, ◌+◌, ◌<◌, ◌≤◌, ◌^◌, List, [], ◌∷◌, ◌++◌, Option, None, Some, refl, ap, subst, sym, ◌∙◌, arith, length}
-use Rattle.std.specs.Prelude.{sum_by, Bool, true, false, ◌==◌, if◌then◌else◌}
+use Rattle.std.specs.Prelude.{sum_by, Bool, true, false, ◌==◌, if◌then◌else◌, map, nat_lt}
+use Rattle.std.specs.List.{AllByRecursion}
 use Rattle.std.specs.List.{Contains}
-use Rattle.std.proofs.lemmas.List.{map-append}
+use Rattle.std.proofs.lemmas.List.{map-append, length-map}
 use mathlib.Core.List.{append_assoc}
 use Rattle.sv_value.specs.declared.number.ProcessId.{ProcessId}
 use Rattle.sv_value.specs.declared.place.Place.{Place}
 use Rattle.sv_value.specs.declared.place.FaultKind.{FaultKind}
 use Rattle.sv_value.specs.declared.schedule.Side.{Side}
 use Rattle.sv_value.specs.declared.schedule.Job.{Job}
-use Rattle.sv_value.specs.declared.target.Target.{Target}
 use Rattle.sv_value.specs.declared.val.Val.{Val}
 use Rattle.sv_value.specs.Regions.{standing}
 use Rattle.sv_value.specs.declared.operator.Piece.{Piece}
@@ -24,35 +24,37 @@ use Rattle.sv_flat.specs.declared.stmt.Form.{Form}
 use Rattle.sv_flat.specs.declared.stmt.Form.TheVariants as form
 use Rattle.sv_flat.specs.declared.stmt.PrintKind.TheVariants as print
 use Rattle.sv_flat.specs.declared.design.Parts.{Parts}
-use Rattle.sv_flat.specs.State.{Name}
-use Rattle.sv_flat.specs.Process.{ProcessState, Effect, Write, Suspend, Turn_in_slot, Watches, Resume_at, Update_at, Print_text, Keep_print, Finish_run, End, Fail}
+use Rattle.sv_flat.specs.State.{Name, Activation, first_value}
+use Rattle.sv_flat.specs.declared.object.DataType.{DataType}
+use Rattle.sv_value.specs.declared.place.FaultKind.TheVariants as fault
+use Rattle.sv_flat.specs.Config.{met_fault}
+use Rattle.sv_flat.specs.Process.{ProcessState, Effect, Spot, Cell, Variable_of, Nowhere, Enter, Write, Suspend, Turn_in_slot, Watches, Resume_at, Update_at, Print_text, Keep_print, Finish_run, End, Fail}
 use Rattle.sv_flat.specs.Config.{Config, Record, Strobe, process_at, first_process, met_fault}
 use Rattle.sv_flat.specs.Effects.{occurred}
 use Rattle.sv_flat.specs.Effects.Scheduling.{update_scheduled}
 use Rattle.sv_built.specs.declared.wait.Wait.{Wait}
-use Rattle.sv_built.specs.Built.{IsBuilt, IsBuiltProcess}
+use Rattle.sv_built.specs.Built.{IsBuilt, IsBuiltType, IsBuiltProcess}
 use Rattle.sv_built.specs.Positions.{stmt_at}
 use Rattle.sv_built.specs.Waits.{watches_at}
-use Rattle.sv_sound.specs.Sound.{weight_of_all, weight_of_running}
-use Rattle.sv_sound.specs.After.{store_after, turned, waiting_until, recorded, strobe_kept}
+use Rattle.sv_sound.specs.Sound.{IsPlainSpot, weight_of_all, weight_of_running}
+use Rattle.sv_sound.specs.After.{store_after, entered_by, entering, turned, waiting_until, recorded, strobe_kept}
 use Rattle.sv_sound.proofs.Weights.{all_at, one, one_self, once, not_contained}
 use Rattle.sv_sound.proofs.Wakes.{change_states}
 use Rattle.sv_sound.proofs.Room.{ones, all_count, count_processes}
-use Rattle.sv_sound.proofs.Occurs.{print_is, strobe_is, resume_is, turn_is, watch_is, update_is, fail_is, finish_is, effect_write_is, end_initial, end_always, end_always_ff, end_always_comb, end_assign, end_port}
-use Rattle.sv_sound.proofs.EffectSound.{each_process, running_known, found, ended_is}
-use Rattle.sv_assign.specs.Places.{spot_in}
+use Rattle.sv_sound.proofs.Occurs.{print_is, strobe_is, resume_is, turn_is, watch_is, update_is, fail_is, finish_is, enter_is, effect_write_is, variable_write_is, end_initial, end_always, end_always_ff, end_always_comb, end_assign, end_port}
+use Rattle.sv_sound.proofs.EffectSound.{await_built, each_process, running_known, found, ended_is}
 use Rattle.sv_process.specs.Effects.{effect_in}
 use Rattle.sv_process.specs.Effects as effects
 use Rattle.sv_machine.specs.declared.machine.Machine.{Machine}
 use Rattle.sv_machine.specs.declared.machine.Kept.{Kept}
 use Rattle.sv_machine.specs.declared.line.Line.{Line}
 use Rattle.sv_machine.specs.Log.{record_of, records_of}
-use Rattle.sv_machine.specs.Machine.{Picture, Tracks, StandsFor, IsAt, Makes, Does, strobe_of, printing}
+use Rattle.sv_machine.specs.Machine.{Picture, Tracks, StandsFor, IsAt, Makes, Does, made_of, strobe_of, printing}
 use Rattle.sv_machine.specs.Wakes.{side_at}
-use Rattle.sv_machine.specs.Steps.{turned_in, WaitsFor, resuming_at, updating_at, EndsAs}
-use Rattle.sv_machine.proofs.EffectLaws.{running_is, state_is, side_of_state, turn_tracks, watch_tracks, resume_tracks, update_tracks, print_tracks, strobe_tracks, finish_tracks, fail_tracks}
+use Rattle.sv_arena.specs.Made.{entered}
+use Rattle.sv_machine.specs.Steps.{assigned_in, entering_in, turned_in, WaitsFor, resuming_at, updating_at, EndsAs}
+use Rattle.sv_machine.proofs.EffectLaws.{running_is, state_is, side_of_state, turn_tracks, watch_tracks, resume_tracks, update_tracks, print_tracks, strobe_tracks, finish_tracks, fail_tracks, enter_tracks}
 use Rattle.sv_machine.proofs.EndLaws.{end_tracks}
-use Rattle.sv_machine.proofs.WriteLaws.{written, plain_spot}
 
 -- ---- the process that runs is one of the design, and stands nowhere
 
@@ -62,6 +64,13 @@ module _ (d : Parts) (m : Machine) (h : IsAt d m) (p : ProcessId) (r : m.running
 
   pub runs_known : p.0 < length d.processes
   runs_known = let k = running_known d h.config h.stands.sound p running in let e = each_process d h.config h.stands.sound in omega (arith, k, e)
+
+  pub made_count : length m.activations.made ≡ length d.processes
+  made_count =
+      let e = ap (λ (x : Picture). length x.made) h.stands.stands.picture in
+      let l = length-map h.config.processes made_of in
+      let k = each_process d h.config h.stands.sound in
+      omega (arith, e, l, k)
 
   weighs : (w : ProcessId → ℕ) → sum_by w (standing m.regions) + w p ≤ weight_of_all w d
   weighs w =
@@ -86,13 +95,47 @@ module _ (d : Parts) (b : IsBuilt d) (at : Place) (p : ProcessId) (m n : Machine
   none : d.clockings ≡ []
   none = b.no_clockings
 
-  pub write_does : (t : Target) (x : Val) → Makes d m n (written d t x) → Does d m n (occurred d at p (Write (spot_in t) x)) ls ls
-  write_does t x k = silent d m n (occurred d at p (Write (spot_in t) x)) ls
-      (λ c a. subst (Tracks d n) (sym (is c)) (k c a))
-      (λ c a. ap (λ (e : Config). e.records) (is c ∙ change_states d (store_after (spot_in t) x c.store) c))
+  pub write_does : (s : Spot) → IsPlainSpot s → (x : Val) → Makes d m n (assigned_in d s x) → Does d m n (occurred d at p (Write s x)) ls ls
+  write_does s h x k = silent d m n (occurred d at p (Write s x)) ls
+      (λ c a. subst (Tracks d n) (sym (is s h c a)) (k c a))
+      (λ c a. ap (λ (e : Config). e.records) (is s h c a) ∙ same s h c)
     where
-      is : (c : Config) → occurred d at p (Write (spot_in t) x) c ≡ written d t x c
-      is c = effect_write_is d none at p c (spot_in t) (plain_spot t) x
+      is : (s : Spot) → IsPlainSpot s → (c : Config) → StandsFor d m c → occurred d at p (Write s x) c ≡ assigned_in d s x c
+      is (Cell o i r) h c a = effect_write_is d none at p c (Cell o i r) tt x
+      is Nowhere h c a = effect_write_is d none at p c Nowhere tt x
+      is (Variable_of v i r) h c a = variable_write_is d none at p c (await_built d c a.sound) v i r x
+      is s h c a = absurd h
+
+      same : (s : Spot) → IsPlainSpot s → (c : Config) → (assigned_in d s x c).records ≡ c.records
+      same (Cell o i r) h c = ap (λ (e : Config). e.records) (change_states d (store_after (Cell o i r) x c.store) c)
+      same Nowhere h c = ap (λ (e : Config). e.records) (change_states d c.store c)
+      same (Variable_of v i r) h c = refl
+      same s h c = absurd h
+
+  pub enter_does : (ts : List DataType) (around : Option Name) → AllByRecursion IsBuiltType ts → n ≡ entering_in at p ts around m
+      → Does d m n (occurred d at p (Enter ts around)) ls ls
+  enter_does ts around b e = silent d m n (occurred d at p (Enter ts around)) ls
+      (λ c a. let q = state_is d m c a p r in
+      subst (Tracks d n) (sym (enter_is d none at p c q.0 q.1 ts b around)) (subst (λ (x : Machine). Tracks d x (entering at p q.0 ts around c)) (sym e) (tracks c a q.0 q.1)))
+      (λ c a. let q = state_is d m c a p r in ap (λ (e : Config). e.records) (enter_is d none at p c q.0 q.1 ts b around) ∙ same c q.0)
+    where
+      tracks : (c : Config) → StandsFor d m c → (q : ProcessState) → process_at c p ≡ Some q → Tracks d (entering_in at p ts around m) (entering at p q ts around c)
+      tracks c a q is =
+          subst (λ (xs : List Activation). Tracks d (entering_in at p ts around m) (if nat_lt (length xs) (2 ^ 24) then entered_by p q ts around c else met_fault fault.Activations at c))
+          (ap (λ (x : Picture). x.activations) a.stands.picture) (by_test (nat_lt (length m.activations.activations) (2 ^ 24)))
+        where
+          by_test : (b : Bool) → Tracks d
+              (if b then record m { activations = entered m.activations p around (map first_value ts) } else record m { fault = Some (record { kind = fault.Activations; at = at; time = m.time }) })
+              (if b then entered_by p q ts around c else met_fault fault.Activations at c)
+          by_test true = enter_tracks d m c a p r q is ts around
+          by_test false = fail_tracks d m c a p r q is fault.Activations at
+
+      same : (c : Config) (q : ProcessState) → (entering at p q ts around c).records ≡ c.records
+      same c q = by_test (nat_lt (length c.activations) (2 ^ 24))
+        where
+          by_test : (b : Bool) → (if b then entered_by p q ts around c else met_fault fault.Activations at c).records ≡ c.records
+          by_test true = refl
+          by_test false = refl
 
   pub turn_does : (s : Side) → s ≡ side_at d p → n ≡ turned_in p s m → Does d m n (occurred d at p (Suspend Turn_in_slot)) ls ls
   turn_does s e k = silent d m n (occurred d at p (Suspend Turn_in_slot)) ls
@@ -100,11 +143,10 @@ module _ (d : Parts) (b : IsBuilt d) (at : Place) (p : ProcessId) (m n : Machine
       subst (Tracks d n) (sym (turn_is d none at p c q.0 q.1)) (subst (λ (x : Machine). Tracks d x (turned p q.0 c)) (sym k) (turn_tracks d m c a p r q.0 q.1 s e)))
       (λ c a. let q = state_is d m c a p r in ap (λ (e : Config). e.records) (turn_is d none at p c q.0 q.1))
 
-  pub watch_does : (w : Wait) (scope : Option Name) → scope ≡ None → WaitsFor d p w m n → Does d m n (occurred d at p (Suspend (Watches (watches_at d w) scope))) ls ls
-  watch_does w scope e k = subst (λ (o : Option Name). Does d m n (occurred d at p (Suspend (Watches (watches_at d w) o))) ls ls) (sym e)
-      (silent d m n (occurred d at p (Suspend (Watches (watches_at d w) None))) ls
-      (λ c a. let q = state_is d m c a p r in subst (Tracks d n) (sym (watch_is d none at p c q.0 q.1 (watches_at d w))) (watch_tracks d m c a p r q.0 q.1 w n k))
-      (λ c a. let q = state_is d m c a p r in ap (λ (e : Config). e.records) (watch_is d none at p c q.0 q.1 (watches_at d w))))
+  pub watch_does : (w : Wait) (scope : Option Name) → WaitsFor d p w m n → Does d m n (occurred d at p (Suspend (Watches (watches_at d w) scope))) ls ls
+  watch_does w scope k = silent d m n (occurred d at p (Suspend (Watches (watches_at d w) scope))) ls
+      (λ c a. let q = state_is d m c a p r in subst (Tracks d n) (sym (watch_is d none at p c q.0 q.1 (watches_at d w) scope)) (watch_tracks d m c a p r q.0 q.1 w scope n k))
+      (λ c a. let q = state_is d m c a p r in ap (λ (e : Config). e.records) (watch_is d none at p c q.0 q.1 (watches_at d w) scope))
 
   pub resume_does : (s : Side) (t : ℕ) → s ≡ side_at d p → n ≡ resuming_at p s t m → Does d m n (occurred d at p (Resume_at t)) ls ls
   resume_does s t e k = silent d m n (occurred d at p (Resume_at t)) ls

@@ -1,8 +1,9 @@
 -- The processes of an opening.
 use Rattle.std.proofs.Common.{ℕ, suc, ◌≡◌, ◌+◌, ◌<◌, List, [], ◌∷◌, Option, None, Bool, true, false, cond, refl, ap, sym, ◌∙◌, arith, length, drop, get_or, map, drop-cons}
-use Rattle.std.specs.Prelude.{◌&&◌, ◌||◌, if◌then◌else◌}
+use Rattle.std.specs.Prelude.{replicate, ◌&&◌, ◌||◌, if◌then◌else◌}
 use Rattle.std.specs.List.{list_any}
 use Rattle.sv_flat.specs.declared.process.Process.{Process}
+use Rattle.sv_flat.specs.declared.process.Watch.{Watch}
 use Rattle.sv_flat.specs.declared.design.Parts.{Parts}
 use Rattle.sv_flat.specs.Process.{Todo, Ready, Waiting, Start, body_in}
 use Rattle.sv_flat.specs.Config.{starts, is_always_comb}
@@ -10,8 +11,8 @@ use Rattle.sv_flat.specs.Opening.{opening_process}
 use Rattle.sv_sound.specs.Sound.{pending_count}
 use Rattle.sv_process.specs.declared.frames.Frame.TheVariants.{Rest}
 use Rattle.sv_process.specs.Frames.{todos_of}
-use Rattle.sv_machine.specs.Machine.{rest_of, was_taken}
-use Rattle.sv_machine.specs.Waits.{Awaited, awaited, awaited_at, awaited_by}
+use Rattle.sv_machine.specs.Machine.{rest_of, was_taken, made_of}
+use Rattle.sv_machine.specs.Waits.{awaited, awaited_at, awaited_by}
 use Rattle.sv_machine.specs.Opening.{starter_count}
 
 module _ (d : Parts) where
@@ -28,6 +29,11 @@ module _ (d : Parts) where
   opening_taken [] = refl
   opening_taken (f ∷ fs) = ap (λ (bs : List Bool). false ∷ bs) (opening_taken fs)
 
+  -- nobody made an activation
+  pub opening_made : (fs : List Process) → replicate (length fs) 0 ≡ map made_of (map (opening_process d) fs)
+  opening_made [] = refl
+  opening_made (f ∷ fs) = ap (λ (ns : List ℕ). 0 ∷ ns) (opening_made fs)
+
   by_test : (b : Bool) → awaited (if b then Waiting Start else Ready) ≡ None
   by_test true = refl
   by_test false = refl
@@ -36,8 +42,8 @@ module _ (d : Parts) where
   pub opening_waits : (fs : List Process) → map (awaited_at d) (map (λ p. None) fs) ≡ map awaited_by (map (opening_process d) fs)
   opening_waits [] = refl
   opening_waits (f ∷ fs) =
-      ap (λ (o : Option Awaited). o ∷ map (awaited_at d) (map (λ p. None) fs)) (sym (by_test (is_always_comb f.kind && list_any starts d.processes)))
-      ∙ ap (λ (os : List (Option Awaited)). awaited_by (opening_process d f) ∷ os) (opening_waits fs)
+      ap (λ (o : Option (List Watch)). o ∷ map (awaited_at d) (map (λ p. None) fs)) (sym (by_test (is_always_comb f.kind && list_any starts d.processes)))
+      ∙ ap (λ (os : List (Option (List Watch))). awaited_by (opening_process d f) ∷ os) (opening_waits fs)
 
   and_true : (b : Bool) (n : ℕ) → cond b 1 0 + n ≡ cond (b && true) 1 0 + n
   and_true true n = refl

@@ -40,7 +40,7 @@ bytes (Ok x) = Ok []
 
 -- the text that a machine has for pieces and values, where a unit has so many ticks
 abbrev pub text_by : (unit : ℕ) → Machine → List Piece → List Expr → Valued
-text_by unit m ps es = with_result (values_of es (view_in m.store m.time unit)) (λ xs. text (rendered unit ps xs))
+text_by unit m ps es = with_result (values_of es (view_in m.store m.activations.activations m.time unit None)) (λ xs. text (rendered unit ps xs))
 
 -- the same in a design
 abbrev pub text_in : Parts → Machine → List Piece → List Expr → Valued
@@ -49,7 +49,7 @@ text_in d m ps es = text_by (unit_ticks d.scale) m ps es
 text_is : (d : Parts) (s : Strobe) (m : Machine) (c : Config) → Shows m c → strobe_text d c s ≡ bytes (text_in d m s.pieces s.values)
 text_is d s m c h =
     ap (strobe_values d s) (λ i. values_of s.values (view_of (sym h.world i) (sym h.time i) (unit_ticks d.scale) None))
-    ∙ by_result (values_of s.values (view_in m.store m.time (unit_ticks d.scale)))
+    ∙ by_result (values_of s.values (view_in m.store m.activations.activations m.time (unit_ticks d.scale) None))
   where
     strobe_values : (d : Parts) (s : Strobe) → Result (List Val) FaultKind → Result (List ℕ) FaultKind
     strobe_values d s (Err k) = Err k

@@ -8,31 +8,33 @@ use Rattle.sv_flat.specs.declared.process.Process.{Process}
 use Rattle.sv_flat.specs.declared.process.Watch.{Watch}
 use Rattle.sv_flat.specs.declared.process.Watch.TheVariants.{On, Updates}
 use Rattle.sv_flat.specs.declared.design.Parts.{Parts}
-use Rattle.sv_flat.specs.State.{Store, View}
+use Rattle.sv_flat.specs.State.{Store, View, Name}
 use Rattle.sv_flat.specs.Eval.{value_of}
 use Rattle.sv_flat.specs.Process
 use Rattle.sv_flat.specs.Process.{Status, Ready, Running, Waiting, Moment, Turn_in_slot, Watches, Children, Queue, Start, ProcessState}
 use Rattle.sv_flat.specs.Config.{Config, unit_ticks, seen, starts}
 use Rattle.sv_flat.specs.Woken.{Changed, allowed, some_fires, is_woken}
 use Rattle.sv_built.specs.declared.wait.Wait.{Wait}
-use Rattle.sv_built.specs.Built.{IsBuiltWatch}
+use Rattle.sv_built.specs.Built.{IsBuilt, IsBuiltWatch}
 use Rattle.sv_built.specs.Waits.{watches_at}
 use Rattle.sv_sound.specs.Sound.{IsSound, pending_count}
 use Rattle.sv_sound.specs.After.{with_store}
+use Rattle.sv_sound.proofs.Static.{fires_outside}
 use Rattle.sv_sound.proofs.Wakes.{states_after, regions_after, woken_in}
 use Rattle.sv_assign.specs.Seen.{view_in}
 use Rattle.sv_sense.specs.Wakes.{woken_from, waits_after}
+use Rattle.sv_sense.proofs.BuiltLaws.{wait_built}
 use Rattle.sv_sense.proofs.EdgeLaws.{both_make_self}
 use Rattle.sv_sense.proofs.FireLaws.{fired_is}
-use Rattle.sv_machine.specs.Waits.{Awaited, awaited, awaited_at, awaited_by}
-use Rattle.sv_machine.specs.Machine.{rest_of, was_taken}
+use Rattle.sv_machine.specs.Waits.{awaited, awaited_at, awaited_by}
+use Rattle.sv_machine.specs.Machine.{rest_of, was_taken, made_of}
 use Rattle.sv_machine.specs.Wakes.{side_at, all_ready}
 
 -- ---- what is seen
 
--- in a run outside of all activations, without a heap, the store is all that is seen
-pub seen_is : (d : Parts) (c : Config) → IsSound d c → seen d c None ≡ view_in c.store c.time (unit_ticks d.scale)
-seen_is d c h = λ i. seen d (record c { world = record c.world { heap = h.no_heap i; activations = h.no_activations i } }) None
+-- in a run without a heap, the store and the activations are all that is seen
+pub seen_is : (d : Parts) (c : Config) → IsSound d c → (scope : Option Name) → seen d c scope ≡ view_in c.store c.activations c.time (unit_ticks d.scale) scope
+seen_is d c h scope = λ i. seen d (record c { world = record c.world { heap = h.no_heap i } }) scope
 
 -- nothing is fired where nothing has changed
 pub quiet : (ws : List Watch) → AllByRecursion IsBuiltWatch ws → (v : View) → some_fires ws Changed v v ≡ false
@@ -63,24 +65,25 @@ awaited_none d c s x h q e = ap (λ (x : Status). is_woken d Changed c (with_sto
     by_status (Waiting Start) h = refl
 
 -- what waits for a change waits for these watches
-pub awaited_some : (a : Awaited) (x : Status) → awaited x ≡ Some a → x ≡ Waiting (Watches a.watches a.scope)
+pub awaited_some : (a : List Watch) (x : Status) → awaited x ≡ Some a → (scope : Option Name) × (x ≡ Waiting (Watches a scope))
 awaited_some a Ready h = absurd (cc)
 awaited_some a Running h = absurd (cc)
 awaited_some a Process.Ended h = absurd (cc)
 awaited_some a (Waiting Moment) h = absurd (cc)
 awaited_some a (Waiting Turn_in_slot) h = absurd (cc)
-awaited_some a (Waiting (Watches ws scope)) h = (let e : record { watches = ws; scope = scope } ≡ a = cc in λ i. Waiting (Watches (e i).watches (e i).scope))
+awaited_some a (Waiting (Watches ws scope)) h = (scope, (let e : ws ≡ a = cc in λ i. Waiting (Watches (e i) scope)))
 awaited_some a (Waiting (Children all ps)) h = absurd (cc)
 awaited_some a (Waiting Queue) h = absurd (cc)
 awaited_some a (Waiting Start) h = absurd (cc)
 
-module _ (d : Parts) (c : Config) (s : Store) (old new : View) (before : seen d c None ≡ old) (after : seen d (with_store s c) None ≡ new)
+module _ (d : Parts) (b : IsBuilt d) (c : Config) (s : Store) (old new : View) (before : seen d c None ≡ old) (after : seen d (with_store s c) None ≡ new)
     (t : Option Wait → Bool) (h : Tests d t old new) where
   pub one_agrees : (n : ℕ) (q : ProcessState) (w : Option Wait) → awaited_at d w ≡ awaited_by q → woken_in d c s n q ≡ t w
   one_agrees n q None e = awaited_none d c s q.latest (sym e) q refl ∙ sym h.none
   one_agrees n q (Some w) e =
-      let x : q.latest ≡ Waiting (Watches (watches_at d w) None) = awaited_some (record { watches = watches_at d w; scope = None }) q.latest (sym e) in
-      ap (λ (x : Status). is_woken d Changed c (with_store s c) (record q { latest = x })) x
+      let x = awaited_some (watches_at d w) q.latest (sym e) in
+      ap (λ (x : Status). is_woken d Changed c (with_store s c) (record q { latest = x })) x.1
+      ∙ fires_outside d c (with_store s c) (watches_at d w) (wait_built d b w) x.0
       ∙ (λ i. some_fires (watches_at d w) Changed (before i) (after i)) ∙ sym (h.some w)
 
   pub waits_agree : (n : ℕ) (qs : List ProcessState) (ws : List (Option Wait)) → map (awaited_at d) ws ≡ map awaited_by qs
@@ -98,7 +101,7 @@ module _ (d : Parts) (c : Config) (s : Store) (old new : View) (before : seen d 
       by_test : (b : Bool) → t w ≡ b → (a : Bool) → a ≡ t w → awaited_at d w ≡ awaited_by q → map (awaited_at d) (waits_after t ws) ≡ map awaited_by (states_after (woken_in d c s) (n + 1) qs)
           → awaited_at d (if t w then None else w) ∷ map (awaited_at d) (waits_after t ws)
           ≡ awaited_by (if a then record q { latest = Ready } else q) ∷ map awaited_by (states_after (woken_in d c s) (n + 1) qs)
-      by_test true e true g f z = ap (λ (b : Bool). awaited_at d (if b then None else w) ∷ map (awaited_at d) (waits_after t ws)) e ∙ ap (λ (xs : List (Option Awaited)). None ∷ xs) z
+      by_test true e true g f z = ap (λ (b : Bool). awaited_at d (if b then None else w) ∷ map (awaited_at d) (waits_after t ws)) e ∙ ap (λ (xs : List (Option (List Watch))). None ∷ xs) z
       by_test true e false g f z = absurd (cc)
       by_test false e true g f z = absurd (cc)
       by_test false e false g f z =
@@ -149,6 +152,14 @@ taken_stays t n [] = refl
 taken_stays t n (q ∷ qs) = λ i. first (t n q) i ∷ taken_stays t (n + 1) qs i
   where
     first : (b : Bool) → was_taken (if b then record q { latest = Ready } else q) ≡ was_taken q
+    first true = refl
+    first false = refl
+
+pub made_stays : (t : ℕ → ProcessState → Bool) (n : ℕ) (qs : List ProcessState) → map made_of (states_after t n qs) ≡ map made_of qs
+made_stays t n [] = refl
+made_stays t n (q ∷ qs) = λ i. first (t n q) i ∷ made_stays t (n + 1) qs i
+  where
+    first : (b : Bool) → made_of (if b then record q { latest = Ready } else q) ≡ made_of q
     first true = refl
     first false = refl
 

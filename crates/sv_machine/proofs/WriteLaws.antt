@@ -1,20 +1,17 @@
 -- What a write makes of the machine and of the configuration for which it stands.
-use Rattle.std.proofs.Common.{ℕ, ◌≡◌, ◌≢◌, ◌+◌, ◌<◌, ◌≤◌, Bool, true, false, List, [], ◌∷◌, Option, None, Some, refl, ap, subst, sym, ◌∙◌, arith, length, map, take, drop, slice_get, ◌-◌}
-use Rattle.std.specs.Prelude.{Ok, Result, IsNone, ◌==◌, if◌then◌else◌, sum_by, get_or}
+use Rattle.std.proofs.Common.{ℕ, ◌≡◌, ◌≢◌, ◌+◌, ◌≤◌, Bool, true, false, List, [], ◌∷◌, Option, None, Some, refl, ap, subst, sym, ◌∙◌, arith, length, map, slice_get}
+use Rattle.std.specs.Prelude.{Ok, Result, IsNone, ◌==◌, if◌then◌else◌, sum_by}
 use Rattle.std.specs.List.{AllByRecursion}
-use Rattle.std.proofs.lemmas.List.{take_all}
 use Rattle.std.proofs.lemmas.List.Sums.{sum_by-cons}
 use Rattle.std.proofs.lemmas.Bool.Decides.{nat_tests}
 use Rattle.sv_value.specs.declared.number.ObjId.{ObjId}
 use Rattle.sv_value.specs.declared.number.ProcessId.{ProcessId}
-use Rattle.sv_value.specs.declared.target.Target.{Target}
-use Rattle.sv_value.specs.declared.target.Target.TheVariants as target
+use Rattle.sv_value.specs.declared.schedule.ObjectTarget.{ObjectTarget}
 use Rattle.sv_value.specs.declared.val.Val.{Val}
 use Rattle.sv_value.specs.Regions.{standing}
 use Rattle.sv_flat.specs.declared.design.Parts.{Parts}
-use Rattle.sv_flat.specs.State.{Store, World, View, value_at}
-use Rattle.sv_flat.specs.Process
-use Rattle.sv_flat.specs.Process.{ProcessState, Status, Spot, Cell, no_place}
+use Rattle.sv_flat.specs.State.{Store, World, View, Name, Activation, value_at}
+use Rattle.sv_flat.specs.Process.{ProcessState, Status, no_place}
 use Rattle.sv_flat.specs.Effects.{write_occurred}
 use Rattle.sv_flat.specs.Steps.{job_spot, updates_written}
 use Rattle.sv_value.specs.declared.schedule.Update.{Update}
@@ -24,15 +21,15 @@ use Rattle.sv_flat.specs.Effects.Writes.{wrote}
 use Rattle.sv_built.specs.declared.wait.Wait.{Wait}
 use Rattle.sv_built.specs.Built.{IsBuilt}
 use Rattle.sv_built.specs.Waits.{watches_at}
-use Rattle.sv_sound.specs.Sound.{IsSound, IsPlainSpot, weight_of_all, is_parked, parked_weight}
-use Rattle.sv_sound.specs.After.{with_store, changed_to, store_after}
-use Rattle.sv_sound.proofs.Wakes.{states_after, regions_after, woken_in, change_states, write_is}
-use Rattle.sv_sound.proofs.EffectSound.{change_sound}
+use Rattle.sv_sound.specs.Sound.{IsSound, weight_of_all, is_parked, parked_weight}
+use Rattle.sv_sound.specs.After.{with_store, with_activations, changed_to, store_after}
+use Rattle.sv_flat.specs.Config.{all_made_ready}
+use Rattle.sv_sound.proofs.Wakes.{states_after, regions_after, woken_in, change_states, write_is, none_woken as none_woken_by}
+use Rattle.sv_sound.proofs.EffectSound.{await_built, change_sound}
 use Rattle.sv_sound.proofs.States.{state_found}
 use Rattle.sv_store.specs.declared.change.Overwritten.{Overwritten}
 use Rattle.sv_store.specs.Overwrites.{object_before, value_before}
 use Rattle.sv_assign.specs.Seen.{world_in, view_in, view_before}
-use Rattle.sv_assign.specs.Places.{spot_in}
 use Rattle.sv_assign.proofs.SeenLaws.{view_before-is, view_in-same}
 use Rattle.sv_sense.specs.Wakes.{SameBut, fires_at, woken_from, waits_after}
 use Rattle.sv_sense.specs.Sensed.{Sensed, Covers}
@@ -41,7 +38,7 @@ use Rattle.sv_machine.specs.declared.machine.Machine.{Machine}
 use Rattle.sv_machine.specs.Waits.{awaited_at, awaited_by}
 use Rattle.sv_machine.specs.Machine.{Picture, of_machine, of_config, Tracks, StandsFor, IsAt, Makes, SameButValues}
 use Rattle.sv_machine.specs.Wakes.{side_at, side_in_design, all_ready, waits_weight, IsKnown, Wakes}
-use Rattle.sv_machine.proofs.WakeLaws.{Tests, quiet, awaited_some, waits_agree, regions_agree, rest_stays, taken_stays, pending_by_taken}
+use Rattle.sv_machine.proofs.WakeLaws.{Tests, quiet, seen_is, awaited_some, waits_agree, regions_agree, rest_stays, taken_stays, made_stays, pending_by_taken}
 
 -- ---- who is woken
 
@@ -78,28 +75,19 @@ none_woken t h n (w ∷ ws) = ap (λ (b : Bool). if b then record { 0 = n } ∷ 
 
 -- ---- what is written
 
-pub plain_spot : (t : Target) → IsPlainSpot (spot_in t)
-plain_spot (target.Object t) = tt
-plain_spot target.Nothing = tt
-plain_spot t = tt
-
-wrote_is : (s : Spot) → IsPlainSpot s → (x : Val) (w : World) → wrote s x w ≡ Ok (record w { store = store_after s x w.store })
-wrote_is (Cell o i r) h x w = refl
-wrote_is Process.Nowhere h x w = refl
-wrote_is s h x w = absurd h
-
 the_same : {a b : World} → ◌≡◌ {A = Result World FaultKind} (Ok a) (Ok b) → a ≡ b
 the_same e = cc
 
-pub store_is : (t : Target) (x : Val) (old new : Store) → ((w : World) → w.store ≡ old → wrote (spot_in t) x w ≡ Ok (record w { store = new })) → new ≡ store_after (spot_in t) x old
+pub store_is : (t : ObjectTarget) (x : Val) (old new : Store) → ((w : World) → w.store ≡ old → wrote (job_spot t) x w ≡ Ok (record w { store = new })) → new ≡ store_after (job_spot t) x old
 store_is t x old new h =
-    let e : Ok (record (world_in old) { store = new }) ≡ Ok (record (world_in old) { store = store_after (spot_in t) x old }) =
-    sym (h (world_in old) refl) ∙ wrote_is (spot_in t) (plain_spot t) x (world_in old) in
+    let e : Ok (record (world_in old []) { store = new }) ≡ Ok (record (world_in old []) { store = store_after (job_spot t) x old }) =
+    sym (h (world_in old []) refl) in
     ap (λ (w : World). w.store) (the_same e)
 
 -- the values before and after a write are those of all objects but one
-pub same_but : (w : Overwritten) (s : Store) (now unit : ℕ) → SameBut w.object (view_before w s now unit) (view_in s now unit)
-same_but w s now unit = record { object = λ p h. other p h; variable = refl; name = refl; heap = refl; now = refl; unit = refl }
+pub same_but : (w : Overwritten) (s : Store) (as' : List Activation) (now unit : ℕ) (scope : Option Name)
+    → SameBut w.object (view_before w s as' now unit scope) (view_in s as' now unit scope)
+same_but w s as' now unit scope = record { object = λ p h. other p h; variable = refl; name = refl; heap = refl; now = refl; unit = refl }
   where
     other : (p : ObjId) → p.0 ≢ w.object.0 → object_before w s p ≡ value_at s p
     other p h i j = at_test (p.0 == w.object.0) refl i
@@ -117,7 +105,7 @@ pub record Written (d : Parts) (m n : Machine) (s : Store) (t : Option Wait → 
   pub regions : n.regions ≡ all_ready d (woken_from t 0 m.sense.waits) m.regions
   pub covers : Covers d n.sense
 
-module _ (d : Parts) (m : Machine) (c : Config) (h : StandsFor d m c) (s : Store) where
+module _ (d : Parts) (b : IsBuilt d) (m : Machine) (c : Config) (h : StandsFor d m c) (s : Store) where
   abbrev pub u : ℕ
   u = unit_ticks d.scale
 
@@ -131,24 +119,22 @@ module _ (d : Parts) (m : Machine) (c : Config) (h : StandsFor d m c) (s : Store
       f.state.side ∙ sym (ap side_in_design (ap (slice_get d.processes) z ∙ f.at))
 
   -- what is seen before and after
-  pub seen_before : seen d c None ≡ view_in m.store m.time u
-  seen_before =
-      (λ i. seen d (record c { world = record c.world { heap = h.sound.no_heap i; activations = h.sound.no_activations i } }) None)
-      ∙ ap (λ (p : Picture). view_in p.store p.time u) (sym same)
+  pub seen_before : (scope : Option Name) → seen d c scope ≡ view_in m.store m.activations.activations m.time u scope
+  seen_before scope = seen_is d c h.sound scope ∙ ap (λ (p : Picture). view_in p.store p.activations p.time u scope) (sym same)
 
-  pub seen_after : seen d (with_store s c) None ≡ view_in s m.time u
-  seen_after =
-      (λ i. seen d (with_store s (record c { world = record c.world { heap = h.sound.no_heap i; activations = h.sound.no_activations i } })) None)
-      ∙ ap (λ (p : Picture). view_in s p.time u) (sym same)
+  pub seen_after : (scope : Option Name) → seen d (with_store s c) scope ≡ view_in s m.activations.activations m.time u scope
+  seen_after scope =
+      (λ i. seen d (with_store s (record c { world = record c.world { heap = h.sound.no_heap i } })) scope)
+      ∙ ap (λ (p : Picture). view_in s p.activations p.time u scope) (sym same)
 
   module _ (t : Option Wait → Bool) (old new : View) (tests : Tests d t old new) (before : seen d c None ≡ old) (after : seen d (with_store s c) None ≡ new)
       (n : Machine) (w : Written d m n s t) where
     waits_are : map (awaited_at d) (waits_after t m.sense.waits) ≡ map awaited_by (states_after (woken_in d c s) 0 c.processes)
-    waits_are = waits_agree d c s old new before after t tests 0 c.processes m.sense.waits (ap (λ (p : Picture). p.waiting) same)
+    waits_are = waits_agree d b c s old new before after t tests 0 c.processes m.sense.waits (ap (λ (p : Picture). p.waiting) same)
 
     regions_are : all_ready d (woken_from t 0 m.sense.waits) m.regions ≡ regions_after (woken_in d c s) 0 c.processes c.regions
     regions_are =
-        regions_agree d c s old new before after t tests 0 c.processes m.sense.waits (ap (λ (p : Picture). p.waiting) same) sides m.regions
+        regions_agree d b c s old new before after t tests 0 c.processes m.sense.waits (ap (λ (p : Picture). p.waiting) same) sides m.regions
         ∙ ap (λ (p : Picture). regions_after (woken_in d c s) 0 c.processes p.regions) same
 
     abbrev shown : Config
@@ -162,9 +148,10 @@ module _ (d : Parts) (m : Machine) (c : Config) (h : StandsFor d m c) (s : Store
     config_is : record (of_config d c) { store = s; waiting = map awaited_by shown.processes; regions = shown.regions } ≡ of_config d shown
     config_is =
         let a = sym (rest_stays (woken_in d c s) 0 c.processes) in
-        let b = sym (taken_stays (woken_in d c s) 0 c.processes) in
+        let t = sym (taken_stays (woken_in d c s) 0 c.processes) in
+        let k = sym (made_stays (woken_in d c s) 0 c.processes) in
         let e = sym (pending_by_taken d.processes c.processes (states_after (woken_in d c s) 0 c.processes) (taken_stays (woken_in d c s) 0 c.processes)) in
-        λ i. record (of_config d shown) { remaining = a i; taken = b i; starters = e i }
+        λ i. record (of_config d shown) { made = k i; remaining = a i; taken = t i; starters = e i }
 
     picture_is : of_machine d n ≡ of_config d shown
     picture_is =
@@ -198,9 +185,9 @@ parked_weighs d w n (None ∷ ws) (q ∷ qs) e =
     omega (arith, k)
 parked_weighs d w n (Some x ∷ ws) (q ∷ qs) e =
     let rest : map (awaited_at d) ws ≡ map awaited_by qs = cc in
-    let first : awaited_by q ≡ Some (record { watches = watches_at d x; scope = None }) = cc in
+    let first : awaited_by q ≡ Some (watches_at d x) = cc in
     let k = parked_weighs d w (n + 1) ws qs rest in
-    let s = ap (λ (s : Status). if is_parked s then w (record { 0 = n }) else 0) (awaited_some (record { watches = watches_at d x; scope = None }) q.latest first) in
+    let s = ap (λ (s : Status). if is_parked s then w (record { 0 = n }) else 0) (awaited_some (watches_at d x) q.latest first).1 in
     omega (arith, k, s)
 
 -- there is room for those who are woken
@@ -217,44 +204,66 @@ pub at_covers : (d : Parts) (m : Machine) → IsAt d m → Covers d m.sense
 at_covers d m h = h.stands.stands.covers
 
 -- what is written
-pub record Wrote (m n : Machine) (t : Target) (x : Val) : Type 0 where
+pub record Wrote (m n : Machine) (t : ObjectTarget) (x : Val) : Type 0 where
   pub is : SameButValues m n
-  pub wrote : (w : World) → w.store ≡ m.store → wrote (spot_in t) x w ≡ Ok (record w { store = n.store })
+  pub wrote : (w : World) → w.store ≡ m.store → wrote (job_spot t) x w ≡ Ok (record w { store = n.store })
 
 -- a write, and the change that it makes
-abbrev pub written : Parts → Target → Val → Config → Config
-written d t x c = changed_to d (store_after (spot_in t) x c.store) c
+abbrev pub written : Parts → ObjectTarget → Val → Config → Config
+written d t x c = changed_to d (store_after (job_spot t) x c.store) c
 
-module _ (d : Parts) (m n : Machine) (tg : Target) (x : Val) (h : Wrote m n tg x) where
-  becomes : (c : Config) → StandsFor d m c → n.store ≡ store_after (spot_in tg) x c.store
-  becomes c k = store_is tg x m.store n.store h.wrote ∙ ap (λ (p : Picture). store_after (spot_in tg) x p.store) k.stands.picture
+module _ (d : Parts) (b : IsBuilt d) (m n : Machine) (tg : ObjectTarget) (x : Val) (h : Wrote m n tg x) where
+  becomes : (c : Config) → StandsFor d m c → n.store ≡ store_after (job_spot tg) x c.store
+  becomes c k = store_is tg x m.store n.store h.wrote ∙ ap (λ (p : Picture). store_after (job_spot tg) x p.store) k.stands.picture
+
+  abbrev pub made : List Activation
+  made = m.activations.activations
 
   pub wrote_some : (w : Overwritten) → ((o : ObjId) (j : ℕ) → value_at m.store o j ≡ object_before w n.store o j)
-      → Wakes d (view_before w n.store m.time (unit_ticks d.scale)) (view_in n.store m.time (unit_ticks d.scale)) m.sense m.regions n.sense n.regions → Makes d m n (written d tg x)
+      → Wakes d (view_before w n.store made m.time (unit_ticks d.scale) None) (view_in n.store made m.time (unit_ticks d.scale) None) m.sense m.regions n.sense n.regions → Makes d m n (written d tg x)
   wrote_some w told k c a =
       let u = unit_ticks d.scale in
-      let old = view_before w n.store m.time u in
-      let new = view_in n.store m.time u in
+      let old = view_before w n.store made m.time u None in
+      let new = view_in n.store made m.time u None in
       subst (λ s. Tracks d n (changed_to d s c)) (becomes c a)
-      (changed_tracks d m c a n.store (fires_at d old new) old new (record { none = refl; some = λ w. refl })
-      (seen_before d m c a n.store ∙ sym (view_before-is w m.store n.store m.time u told)) (seen_after d m c a n.store)
+      (changed_tracks d b m c a n.store (fires_at d old new) old new (record { none = refl; some = λ w. refl })
+      (seen_before d b m c a n.store None ∙ sym (view_before-is w m.store n.store made m.time u None told)) (seen_after d b m c a n.store None)
       n (record { is = h.is; waits = k.waits; regions = k.regions; covers = k.covers }))
 
-  pub wrote_none : IsBuilt d → ((o : ObjId) (j : ℕ) → value_at n.store o j ≡ value_at m.store o j) → n.sense ≡ m.sense → n.regions ≡ m.regions → Makes d m n (written d tg x)
-  wrote_none b told s r c a =
+  pub wrote_none : ((o : ObjId) (j : ℕ) → value_at n.store o j ≡ value_at m.store o j) → n.sense ≡ m.sense → n.regions ≡ m.regions → Makes d m n (written d tg x)
+  wrote_none told s r c a =
       let u = unit_ticks d.scale in
-      let v = view_in n.store m.time u in
+      let v = view_in n.store made m.time u None in
       let t : Option Wait → Bool = fires_at d v v in
       let none : (w : Option Wait) → t w ≡ false = same_views d b v in
       subst (λ s. Tracks d n (changed_to d s c)) (becomes c a)
-      (changed_tracks d m c a n.store t v v (record { none = refl; some = λ w. refl })
-      (seen_before d m c a n.store ∙ sym (view_in-same m.store n.store m.time u told)) (seen_after d m c a n.store)
+      (changed_tracks d b m c a n.store t v v (record { none = refl; some = λ w. refl })
+      (seen_before d b m c a n.store None ∙ sym (view_in-same m.store n.store made m.time u None told)) (seen_after d b m c a n.store None)
       n (record {
         is = h.is;
         waits = ap (λ (s : Sensed). s.waits) s ∙ sym (none_left t none m.sense.waits);
         regions = r ∙ ap (λ (ps : List ProcessId). all_ready d ps m.regions) (sym (none_woken t none 0 m.sense.waits));
         covers = subst (Covers d) (sym s) a.stands.covers;
       }))
+
+-- ---- variables of activations, and what is nowhere
+
+pub varied_makes : (d : Parts) (m : Machine) (f : List Activation → List Activation)
+    → Makes d m (record m { activations = record m.activations { activations = f m.activations.activations } }) (λ c. with_activations (f c.activations) c)
+varied_makes d m f c a = record {
+  time = ap (λ (x : Picture). x.time) a.stands.picture;
+  fault = a.fault;
+  going = λ g. record {
+    picture = λ i. record (a.stands.picture i) { activations = f (a.stands.picture i).activations };
+    covers = a.stands.covers;
+    last = a.stands.last;
+  };
+}
+
+pub nothing_makes : (d : Parts) (m : Machine) → Makes d m m (λ c. changed_to d c.store c)
+nothing_makes d m c a =
+    subst (Tracks d m) (sym (ap (λ (ps : List ProcessId). all_made_ready ps c) (none_woken_by d c c refl refl (await_built d c a.sound))))
+    (record { time = ap (λ (x : Picture). x.time) a.stands.picture; fault = a.fault; going = λ g. a.stands })
 
 -- ---- one after another
 
@@ -267,21 +276,21 @@ carried d m n f h k s g =
 pub both_make : (d : Parts) (m n l : Machine) (f g : Config → Config) → ((c : Config) → StandsFor d m c → StandsFor d n (f c)) → Makes d n l g → Makes d m l (λ c. g (f c))
 both_make d m n l f g h k c a = k (f c) (h c a)
 
-pub written_stands : (d : Parts) (m n : Machine) (t : Target) (x : Val) → Makes d m n (written d t x) → (c : Config) → StandsFor d m c → StandsFor d n (written d t x c)
+pub written_stands : (d : Parts) (m n : Machine) (t : ObjectTarget) (x : Val) → Makes d m n (written d t x) → (c : Config) → StandsFor d m c → StandsFor d n (written d t x c)
 written_stands d m n t x k c a =
-    let s = store_after (spot_in t) x c.store in
+    let s = store_after (job_spot t) x c.store in
     let g : IsNone (changed_to d s c).fault = subst (λ (e : Config). IsNone e.fault) (sym (change_states d s c)) a.going in
     let r = k c a in
     record { sound = change_sound d s c a.sound; going = g; fault = r.fault; stands = r.going g }
 
-pub written_at : (d : Parts) (m n : Machine) (t : Target) (x : Val) → Makes d m n (written d t x) → IsAt d m → IsAt d n
+pub written_at : (d : Parts) (m n : Machine) (t : ObjectTarget) (x : Val) → Makes d m n (written d t x) → IsAt d m → IsAt d n
 written_at d m n t x k h = record { config = written d t x h.config; stands = written_stands d m n t x k h.config h.stands }
 
 -- an update of a job
-pub update_is : (d : Parts) → IsBuilt d → (u : Update) (c : Config) → write_occurred d no_place (job_spot u.target) u.value c ≡ written d (target.Object u.target) u.value c
+pub update_is : (d : Parts) → IsBuilt d → (u : Update) (c : Config) → write_occurred d no_place (job_spot u.target) u.value c ≡ written d u.target u.value c
 update_is d b u c = write_is d b.no_clockings no_place (job_spot u.target) tt u.value c
 
-pub updates_make : (d : Parts) → IsBuilt d → (u : Update) (us : List Update) (m n l : Machine) → Makes d m n (written d (target.Object u.target) u.value) → Makes d n l (updates_written d us)
+pub updates_make : (d : Parts) → IsBuilt d → (u : Update) (us : List Update) (m n l : Machine) → Makes d m n (written d u.target u.value) → Makes d n l (updates_written d us)
     → Makes d m l (updates_written d (u ∷ us))
 updates_make d b u us m n l h k c a =
-    subst (λ e. Tracks d l (updates_written d us e)) (sym (update_is d b u c)) (k (written d (target.Object u.target) u.value c) (written_stands d m n (target.Object u.target) u.value h c a))
+    subst (λ e. Tracks d l (updates_written d us e)) (sym (update_is d b u c)) (k (written d u.target u.value c) (written_stands d m n u.target u.value h c a))

@@ -9,7 +9,8 @@ use Rattle.sv_flat.specs.declared.design.Parts.{Parts}
 use Rattle.sv_flat.specs.declared.stmt.Stmt.{Stmt}
 use Rattle.sv_flat.specs.declared.stmt.Form.{Form}
 use Rattle.sv_flat.specs.declared.stmt.Form.TheVariants as form
-use Rattle.sv_flat.specs.State.{Store}
+use Rattle.sv_flat.specs.State.{Store, Activation}
+use Rattle.sv_flat.specs.declared.process.Watch.{Watch}
 use Rattle.sv_value.specs.declared.place.Place.{Place}
 use Rattle.sv_flat.specs.Process.{ProcessState, Todo}
 use Rattle.sv_flat.specs.Config.{Config, Strobe, Record}
@@ -21,7 +22,7 @@ use Rattle.sv_machine.specs.declared.machine.Machine.{Machine}
 use Rattle.sv_machine.specs.declared.machine.Kept.{Kept}
 use Rattle.sv_machine.specs.declared.line.Line.{Line}
 use Rattle.sv_machine.specs.Log.{records_of}
-use Rattle.sv_machine.specs.Waits.{Awaited, awaited_at, awaited_by}
+use Rattle.sv_machine.specs.Waits.{awaited_at, awaited_by}
 
 -- ---- parts of what is kept
 
@@ -32,6 +33,10 @@ rest_of q = q.rest
 -- whether it ever ran
 abbrev pub was_taken : ProcessState → Bool
 was_taken q = q.was_taken
+
+-- how many activations it made
+abbrev pub made_of : ProcessState → ℕ
+made_of q = q.made
 
 -- the pieces and values of a print
 abbrev pub printing : Side → Place → Form → Strobe
@@ -57,9 +62,11 @@ pub record Picture : Type 0 where
   pub finishing : Bool
   pub running : Option ProcessId
   pub store : Store
+  pub activations : List Activation
   -- by process number
+  pub made : List ℕ
   pub remaining : List (List Todo)
-  pub waiting : List (Option Awaited)
+  pub waiting : List (Option (List Watch))
   pub taken : List Bool
   -- how many starters were not taken yet
   pub starters : ℕ
@@ -79,6 +86,8 @@ of_machine d m =
       finishing = m.finishing;
       running = m.running;
       store = m.store;
+      activations = m.activations.activations;
+      made = m.activations.made;
       remaining = map (todos_of d) m.processes.items;
       waiting = map (awaited_at d) m.sense.waits;
       taken = m.taken.items;
@@ -100,6 +109,8 @@ of_config d c =
       finishing = c.finishing;
       running = c.running;
       store = c.store;
+      activations = c.activations;
+      made = map made_of c.processes;
       remaining = map rest_of c.processes;
       waiting = map awaited_by c.processes;
       taken = map was_taken c.processes;

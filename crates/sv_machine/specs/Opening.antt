@@ -15,7 +15,7 @@ use Rattle.sv_assign.specs.Seen.{world_in}
 
 -- what the initializer of an object makes of a store
 abbrev pub store_initialized : Parts → ObjId → Object → Store → Store
-store_initialized d n o s = (initializer_run d n o o.initial (world_in s)).store
+store_initialized d n o s = (initializer_run d n o o.initial (world_in s [])).store
 
 -- how many starters there are
 abbrev pub starter_count : List Process → ℕ

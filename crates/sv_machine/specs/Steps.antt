@@ -1,6 +1,9 @@
 -- What effects do to the fields of a machine.
-use Rattle.std.specs.Prelude.{ℕ, ◌≡◌, ◌++◌, ◌==◌, List, [], ◌∷◌, None, Some, slice_set, map, if◌then◌else◌}
+use Rattle.std.specs.Prelude.{ℕ, ◌≡◌, ◌^◌, ◌++◌, ◌==◌, List, [], ◌∷◌, Option, None, Some, length, nat_lt, slice_set, map, if◌then◌else◌}
 use Rattle.sv_value.specs.declared.number.ProcessId.{ProcessId}
+use Rattle.sv_value.specs.declared.place.Place.{Place}
+use Rattle.sv_value.specs.declared.place.FaultKind.TheVariants as fault
+use Rattle.sv_value.specs.declared.val.Val.{Val}
 use Rattle.sv_value.specs.declared.schedule.Side.{Side}
 use Rattle.sv_value.specs.declared.schedule.Job.{Job}
 use Rattle.sv_value.specs.declared.schedule.Due.TheVariants.{Resume, Work}
@@ -9,12 +12,42 @@ use Rattle.sv_flat.specs.declared.process.Process.{Process}
 use Rattle.sv_flat.specs.declared.process.ProcessKind.{ProcessKind}
 use Rattle.sv_flat.specs.declared.process.ProcessKind.TheVariants as kind
 use Rattle.sv_flat.specs.declared.design.Parts.{Parts}
-use Rattle.sv_flat.specs.Process.{Todo, body_in}
+use Rattle.sv_flat.specs.declared.object.DataType.{DataType}
+use Rattle.sv_flat.specs.State.{Name, first_value}
+use Rattle.sv_flat.specs.Config.{Config}
+use Rattle.sv_flat.specs.Effects.Writes.{variable_over}
+use Rattle.sv_flat.specs.Process.{Todo, Spot, Variable_of, Effect, Enter, body_in}
 use Rattle.sv_built.specs.declared.wait.Wait.{Wait}
 use Rattle.sv_built.specs.declared.wait.Wait.TheVariants as wait
+use Rattle.sv_arena.specs.Made.{entered}
 use Rattle.sv_sense.specs.Sensed.{Covers}
+use Rattle.sv_sound.specs.After.{with_activations, changed_to, store_after}
 use Rattle.sv_process.specs.Frames.{todos_of}
+use Rattle.sv_process.specs.Effects.{effects_in}
+use Rattle.sv_process.specs.declared.effect.Effect.{Effect as Own_effect}
+use Rattle.sv_process.specs.declared.went.Went.{Went}
+use Rattle.sv_process.specs.declared.went.Went.TheVariants as went
+use Rattle.sv_built.specs.Entered.{types_at}
 use Rattle.sv_machine.specs.declared.machine.Machine.{Machine}
+
+-- a value at a place: a change of an object wakes those whom it fires, and one of a variable of an activation nobody
+abbrev pub assigned_in : Parts → Spot → Val → Config → Config
+assigned_in d (Variable_of n i r) x c = with_activations (variable_over n i r x c.activations) c
+assigned_in d s x c = changed_to d (store_after s x c.store) c
+
+-- a process makes an activation with variables of these types, or meets the fault that there are too many
+abbrev pub entering_in : Place → ProcessId → List DataType → Option Name → Machine → Machine
+entering_in at p ts around m =
+    if nat_lt (length m.activations.activations) (2 ^ 24)
+    then record m { activations = entered m.activations p around (map first_value ts) }
+    else record m { fault = Some (record { kind = fault.Activations; at = at; time = m.time }) }
+
+-- the effects of a step but for what is left to run: an activation that was made first, and the others
+abbrev pub effects_done : Parts → Went → List Own_effect → List Effect
+effects_done d went.On es = effects_in d es
+effects_done d went.Held es = effects_in d es
+effects_done d (went.Entered e around) es = Enter (types_at d e) around ∷ effects_in d es
+effects_done d (went.EnteredHeld e around) es = Enter (types_at d e) around ∷ effects_in d es
 
 -- a process waits for its turn in the slot
 abbrev pub turned_in : ProcessId → Side → Machine → Machine

@@ -15,7 +15,7 @@ use Rattle.sv_machine.specs.Machine.{StandsFor, strobe_at}
 -- the machine keeps what strobes read, and no fault was met
 pub record Shows (m : Machine) (c : Config) : Type 0 where
   pub time : m.time ≡ c.time
-  pub world : world_in m.store ≡ c.world
+  pub world : world_in m.store m.activations.activations ≡ c.world
   pub going : c.fault ≡ None
 
 -- the configuration with these lines printed, and this fault met

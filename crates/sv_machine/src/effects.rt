@@ -12,10 +12,11 @@ ghost use Rattle.sv_sense.specs.Sensed.{Covers};
 ghost use Rattle.sv_machine.specs.Machine.{IsAt, Does, SameMoment};
 ghost use Rattle.sv_machine.specs.Steps.{turned_in, WaitsFor, resuming_at, updating_at, EndsAs};
 
+use crate::entering::enter;
 use crate::line::Line;
 use crate::machine::{Kept, Machine};
 use crate::sides::{front_region, idle_region, updates_region};
-use crate::writes::write;
+use crate::writes::assign;
 use sv_built::{Design, Wait};
 use sv_flat::ProcessKind;
 use sv_process::Effect;
@@ -40,7 +41,10 @@ pub fn occur(
 {
     let side = design.processes()[process.0 as usize].side;
     match effect {
-        Effect::Write { target, value } => write(machine, design, &target, value),
+        Effect::Write { spot, value } => assign(machine, design, spot, value),
+        Effect::Enter { entered, around } => {
+            enter(machine, design, process, at, entered, around)
+        }
         Effect::Turn => turn(machine, process, side),
         Effect::Watch { wait, .. } => watch(machine, design, process, wait),
         Effect::ResumeAt(time) => resume_at(machine, process, side, time),

@@ -11,6 +11,7 @@
 #![tactic(auto)]
 
 mod effects;
+mod entering;
 mod line;
 mod machine;
 mod opening;

@@ -1,5 +1,6 @@
 // What a run keeps between two steps.
 use std::alloc::Global;
+use sv_arena::Activations;
 use sv_built::Position;
 use sv_process::{Frames, Spare};
 use sv_sched::{Regions, Wheel};
@@ -18,7 +19,7 @@ pub struct Kept {
     pub position: Position,
 }
 
-/// The time, the values, the regions, the future, and where each process stands.
+/// The time, the values, the activations, the regions, the future, and where each process stands.
 #[derive(Drop)]
 pub struct Machine {
     pub alloc: Global,
@@ -28,6 +29,7 @@ pub struct Machine {
     pub finishing: bool,
     pub running: Option<ProcessId>,
     pub store: Store,
+    pub activations: Activations,
     /// What each process has still to run, by number.
     pub processes: Vec<Frames>,
     /// For what each process waits, and whom a change wakes.

@@ -18,6 +18,7 @@ use crate::machine::Machine;
 use crate::sides::front_region;
 use crate::starts::is_starter;
 use std::alloc::Global;
+use sv_arena::Activations;
 use sv_assign::{Seen, target_value};
 use sv_built::Design;
 use sv_eval::{Stopped, value};
@@ -42,6 +43,7 @@ pub fn opened(alloc: Global, design: &Design) -> Result<Machine, NoMemory>
         finishing: false,
         running: None,
         store: first_store(alloc, design)?,
+        activations: Activations::new(alloc, processes.len())?,
         processes: at_beginnings(alloc, processes)?,
         sense: Sense::new(alloc, design)?,
         taken: never_taken(alloc, processes)?,
@@ -107,10 +109,13 @@ fn set_initial(
 ) -> Result<(), NoMemory>
     requires built { IsBuilt design.now }
     ensures { OnOk result (store.new ≡ (initialized object (initial.Value expr.now) ty
-        (value_of expr.now (view_in store.old 0 (unit_ticks design.now.scale))) (world_in store.old)).store) }
+        (value_of expr.now (view_in store.old [] 0 (unit_ticks design.now.scale) None)) (world_in store.old [])).store) }
 {
+    let none = Activations::new(alloc, 0)?;
     let seen = Seen {
         store: &*store,
+        activations: &none,
+        scope: None,
         time: 0,
         unit: design.scale().unit_ticks(),
     };

@@ -68,6 +68,8 @@ fn print_strobe(
 {
     let seen = Seen {
         store: &machine.store,
+        activations: &machine.activations,
+        scope: None,
         time: machine.time,
         unit: design.scale().unit_ticks(),
     };

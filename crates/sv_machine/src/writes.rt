@@ -1,8 +1,8 @@
 // Changes of values: what is written, and whom it wakes (IEEE 1800-2017, 9.4.2 and 10.4).
-ghost use Rattle.std.specs.Prelude.{◌≡◌, ◌≤◌, ◌+◌, [], ℕ, OnOk, OnErr, length, reverse, sum_by};
+ghost use Rattle.std.specs.Prelude.{◌≡◌, ◌≤◌, ◌+◌, [], ℕ, None, OnOk, OnErr, length, reverse, sum_by};
 ghost use Rattle.sv_value.specs.declared.number.ProcessId.{ProcessId as ProcessNumber};
 ghost use Rattle.sv_value.specs.Regions.{standing};
-ghost use Rattle.sv_flat.specs.Steps.{job_done, updates_written};
+ghost use Rattle.sv_flat.specs.Steps.{job_done, job_spot, updates_written};
 ghost use Rattle.sv_flat.specs.Config.{unit_ticks};
 ghost use Rattle.sv_built.specs.Built.{IsBuilt};
 ghost use Rattle.sv_sound.specs.Sound.{IsPlainJob, weight_of_all};
@@ -10,25 +10,28 @@ ghost use Rattle.sv_sound.specs.After.{changed_to, store_after};
 ghost use Rattle.sv_assign.specs.Seen.{view_in, view_before};
 ghost use Rattle.sv_assign.specs.Places.{spot_in};
 ghost use Rattle.sv_sense.specs.Sensed.{Covers};
+ghost use Rattle.sv_machine.specs.Steps.{assigned_in};
 ghost use Rattle.sv_machine.specs.Wakes.{Wakes, waits_weight};
 ghost use Rattle.sv_machine.specs.Machine.{IsAt, Makes, SameMoment, SameButValues};
 
 use crate::machine::Machine;
 use crate::wakes::make_ready;
 use std::alloc::Global;
-use sv_assign::{Before, Seen, overwrite};
+use sv_arena::Activations;
+use sv_assign::{Before, Seen, Spot, overwrite};
 use sv_built::Design;
 use sv_process::Spare;
 use sv_sched::Regions;
 use sv_sense::Sense;
 use sv_store::{Overwritten, Store};
-use sv_value::{Job, NoMemory, Seq, Target, Update, Val};
+use sv_value::{Job, NoMemory, ObjectTarget, Seq, Update, Val};
 
-/// Lets those go on whom a change wakes, by number.
+/// Lets those go on whom a change of an object wakes, by number. What they wait for fires alike in all scopes.
 fn wake(
     alloc: Global,
     design: &Design,
     store: &Store,
+    activations: &Activations,
     time: u64,
     overwritten: &Overwritten,
     sense: &mut Sense,
@@ -39,13 +42,27 @@ fn wake(
     requires covers { Covers design.now sense.old }
     requires weights { (w : ProcessNumber → ℕ)
         → sum_by w (standing regions.old) + waits_weight w 0 sense.old.waits ≤ weight_of_all w design.now }
-    ensures { OnOk result (Wakes design.now (view_before overwritten.now store.now time (unit_ticks design.now.scale))
-        (view_in store.now time (unit_ticks design.now.scale)) sense.old regions.old sense.new regions.new) }
+    ensures { OnOk result (Wakes design.now
+        (view_before overwritten.now store.now activations.now.activations time (unit_ticks design.now.scale) None)
+        (view_in store.now activations.now.activations time (unit_ticks design.now.scale) None) sense.old regions.old sense.new regions.new) }
 {
     let mut woken = spare.woken(alloc);
     let unit = design.scale().unit_ticks();
-    let seen = Seen { store, time, unit };
-    let before = Before { seen, overwritten };
+    let seen = Seen {
+        store,
+        activations,
+        scope: None,
+        time,
+        unit,
+    };
+    let before = Before {
+        store,
+        activations,
+        scope: None,
+        time,
+        unit,
+        overwritten,
+    };
     sense.fire(
         alloc,
         design,
@@ -59,32 +76,61 @@ fn wake(
     done
 }
 
-/// A value is written, and those go on whom the change wakes.
+/// A value is written to a place. A variable of an activation is one for which nobody waits.
+pub fn assign(
+    machine: &mut Machine,
+    design: &Design,
+    spot: Spot,
+    value: Val,
+) -> Result<(), NoMemory>
+    requires at { IsAt design.now machine.old }
+    requires built { IsBuilt design.now }
+    ensures ok { OnOk result (Makes design.now machine.old machine.new (assigned_in design.now (spot_in spot) value)) }
+    ensures moment { SameMoment machine.old machine.new }
+{
+    match spot {
+        Spot::Cell(target) => write(machine, design, target, value),
+        Spot::Variable {
+            name,
+            variable,
+            part,
+        } => {
+            machine.activations.write(name, variable, part, value);
+            Ok(())
+        }
+        Spot::Nowhere => Ok(()),
+    }
+}
+
+/// A value is written to an object, and those go on whom the change wakes.
 pub fn write(
     machine: &mut Machine,
     design: &Design,
-    target: &Target,
+    target: ObjectTarget,
     value: Val,
 ) -> Result<(), NoMemory>
     requires at { IsAt design.now machine.old }
     requires built { IsBuilt design.now }
     ensures ok { OnOk result (Makes design.now machine.old machine.new
-        (λ c. changed_to design.now (store_after (spot_in target.now) value c.store) c)) }
+        (λ c. changed_to design.now (store_after (job_spot target) value c.store) c)) }
     ensures same { OnOk result (SameButValues machine.old machine.new) }
     ensures moment { SameMoment machine.old machine.new }
 {
     match overwrite(&mut machine.store, target, value)? {
         None => Ok(()),
-        Some(overwritten) => wake(
-            machine.alloc,
-            design,
-            &machine.store,
-            machine.time,
-            &overwritten,
-            &mut machine.sense,
-            &mut machine.regions,
-            &mut machine.spare,
-        ),
+        Some(overwritten) => {
+            wake(
+                machine.alloc,
+                design,
+                &machine.store,
+                &machine.activations,
+                machine.time,
+                &overwritten,
+                &mut machine.sense,
+                &mut machine.regions,
+                &mut machine.spare,
+            )
+        }
     }
 }
 
@@ -124,11 +170,6 @@ fn write_updates(
     let Some(update) = updates.pop() else {
         return Ok(());
     };
-    write(
-        machine,
-        design,
-        &Target::Object(update.target),
-        update.value,
-    )?;
+    write(machine, design, update.target, update.value)?;
     write_updates(machine, design, updates)
 }

@@ -1,10 +1,9 @@
 -- What assignments write.
-use Rattle.std.proofs.Common.{◌≡◌, Bool, List, [], ◌∷◌, ◌++◌, Option, None, Some, refl, ap, subst, sym, ◌∙◌, arith, length}
+use Rattle.std.proofs.Common.{◌≡◌, Bool, List, [], ◌∷◌, ◌++◌, Option, Some, refl, ap, subst, sym, ◌∙◌, arith, length}
 use Rattle.std.specs.Prelude.{Ok, Err}
 use Rattle.std.proofs.lemmas.List.{append_assoc, map-append}
 use Rattle.sv_value.specs.declared.place.FaultKind.{FaultKind}
 use Rattle.sv_value.specs.declared.val.Val.{Val}
-use Rattle.sv_value.specs.declared.target.Target.{Target}
 use Rattle.sv_flat.specs.declared.target.Lvalue.{Lvalue}
 use Rattle.sv_flat.specs.declared.stmt.Stmt.{Stmt}
 use Rattle.sv_flat.specs.declared.stmt.Form.TheVariants as form
@@ -16,6 +15,7 @@ use Rattle.sv_flat.specs.Process.{Todo, Put, Spot, Write}
 use Rattle.sv_flat.specs.Statements.Delays.{delayed, ticks_of}
 use Rattle.sv_flat.specs.Statements.Shared.{Effects, goes_on, waits, value_in, from_result, fails, computed, written}
 use Rattle.sv_flat.specs.Targets.{spot_of, spots_of, target_values, converted, target_width}
+use Rattle.sv_assign.specs.declared.spot.Spot.{Spot as Own_spot}
 use Rattle.sv_assign.specs.Places.{spot_in, spots_in}
 use Rattle.sv_built.specs.declared.position.Position.{Position}
 use Rattle.sv_built.specs.Positions.{stmt_at}
@@ -32,7 +32,7 @@ use Rattle.sv_process.specs.Parts.{writes}
 pub one_more : (d : Parts) (es more : List Own_effect) (f : Own_effect) → more ≡ es ++ f ∷ [] → effects_in d more ≡ effects_in d es ++ effect_in d f ∷ []
 one_more d es more f e = ap (effects_in d) e ∙ map-append (effect_in d) es (f ∷ [])
 
-pub first_written : (d : Parts) (es more : List Own_effect) (ts us : List Target) (vs ws : List Val) (t : Target) (x : Val)
+pub first_written : (d : Parts) (es more : List Own_effect) (ts us : List Own_spot) (vs ws : List Val) (t : Own_spot) (x : Val)
     → ts ≡ t ∷ us → vs ≡ x ∷ ws → more ≡ es ++ effect.Write t x ∷ []
     → effects_in d more ++ written (spots_in us) ws ≡ effects_in d es ++ written (spots_in ts) vs
 first_written d es more ts us vs ws t x e f g =
@@ -40,22 +40,22 @@ first_written d es more ts us vs ws t x e f g =
     ∙ append_assoc (effects_in d es) (Write (spot_in t) x ∷ []) (written (spots_in us) ws)
     ∙ sym (λ i. effects_in d es ++ written (spots_in (e i)) (f i))
 
-pub without_places : (ts : List Target) (vs : List Val) → length ts ≡ 0 → written (spots_in ts) vs ≡ []
+pub without_places : (ts : List Own_spot) (vs : List Val) → length ts ≡ 0 → written (spots_in ts) vs ≡ []
 without_places [] vs h = refl
 without_places (t ∷ ts) vs h = absurd (omega arith)
 
-pub without_values : (ts : List Target) (vs : List Val) → length vs ≡ 0 → written (spots_in ts) vs ≡ []
+pub without_values : (ts : List Own_spot) (vs : List Val) → length vs ≡ 0 → written (spots_in ts) vs ≡ []
 without_values [] vs h = refl
 without_values (t ∷ ts) [] h = refl
 without_values (t ∷ ts) (v ∷ vs) h = absurd (omega arith)
 
-pub wrote_all : (d : Parts) (fs : List Frame) (es out : List Own_effect) (rest : List Todo) (ts : List Lvalue) (ps : List Target) (vs : List Val) (x : Val) (old : List Own_effect)
+pub wrote_all : (d : Parts) (fs : List Frame) (es out : List Own_effect) (rest : List Todo) (ts : List Lvalue) (ps : List Own_spot) (vs : List Val) (x : Val) (old : List Own_effect)
     → old ≡ [] → vs ≡ target_values ts x → effects_in d out ≡ effects_in d old ++ written (spots_in ps) vs
     → Leaves d fs es (goes_on rest (effects_in d out)) → Leaves d fs es (writes rest ts (spots_in ps) x)
 wrote_all d fs es out rest ts ps vs x old none values all h =
     subst (λ us. Leaves d fs es (goes_on rest us)) (all ∙ ap (λ u. effects_in d u ++ written (spots_in ps) vs) none ∙ ap (written (spots_in ps)) values) h
 
-pub wrote_one : (d : Parts) (fs : List Frame) (es out : List Own_effect) (rest : List Todo) (l : Lvalue) (t : Target) (y x : Val) (old : List Own_effect)
+pub wrote_one : (d : Parts) (fs : List Frame) (es out : List Own_effect) (rest : List Todo) (l : Lvalue) (t : Own_spot) (y x : Val) (old : List Own_effect)
     → old ≡ [] → y ≡ converted l.ty (target_width l) x → out ≡ old ++ effect.Write t y ∷ []
     → Leaves d fs es (goes_on rest (effects_in d out)) → Leaves d fs es (writes rest (l ∷ []) (spot_in t ∷ []) x)
 wrote_one d fs es out rest l t y x old none value one h =

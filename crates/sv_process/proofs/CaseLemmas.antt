@@ -1,5 +1,5 @@
 -- Which item of a `case` matches.
-use Rattle.std.proofs.Common.{ℕ, ◌≡◌, ◌+◌, ◌<◌, ◌≤◌, Bool, List, [], ◌∷◌, ◌++◌, Option, None, Some, true, false, refl, ap, subst, sym, ◌∙◌, length, drop, get_or}
+use Rattle.std.proofs.Common.{ℕ, ◌≡◌, ◌+◌, ◌<◌, ◌≤◌, Bool, List, [], ◌∷◌, ◌++◌, Option, Some, true, false, refl, ap, subst, sym, ◌∙◌, length, drop, get_or}
 use Rattle.std.specs.Prelude.{Ok, Err, if◌then◌else◌, IsTrue, ◌↔◌}
 use Rattle.std.proofs.lemmas.List.{drop_more, drop_all}
 use Rattle.sv_value.specs.declared.number.RoutineId.{RoutineId}

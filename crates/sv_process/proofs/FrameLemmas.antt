@@ -9,16 +9,22 @@ use Rattle.sv_flat.specs.declared.design.Parts.{Parts}
 use Rattle.sv_value.specs.declared.number.RoutineId.{RoutineId}
 use Rattle.sv_value.specs.declared.place.Place.{Place}
 use Rattle.sv_value.specs.declared.val.Val.{Val}
+use Rattle.sv_flat.specs.declared.call.Argument.{Argument}
+use Rattle.sv_flat.specs.declared.call.Call.{Call}
+use Rattle.sv_flat.specs.declared.call.CallForm.{CallForm}
+use Rattle.sv_flat.specs.declared.call.CallForm.TheVariants as call
+use Rattle.sv_flat.specs.declared.class.Subroutine.{Subroutine}
 use Rattle.sv_flat.specs.declared.stmt.Stmt.{Stmt}
 use Rattle.sv_flat.specs.declared.stmt.Form.{Form}
 use Rattle.sv_flat.specs.declared.stmt.Form.TheVariants as form
 use Rattle.sv_flat.specs.State.{Name}
-use Rattle.sv_flat.specs.Process.{Todo, Turn, Turns, Put, body_in}
+use Rattle.sv_flat.specs.Process.{Todo, Turn, Turns, Walk_elements, Put, body_in, Do, Leave, routine_of}
 use Rattle.sv_built.specs.declared.position.Position.{Position}
 use Rattle.sv_built.specs.Positions.{body_of, stmt_at}
 use Rattle.sv_process.specs.declared.frames.Frame.{Frame}
 use Rattle.sv_process.specs.declared.frames.Frame.TheVariants as frame
-use Rattle.sv_process.specs.Frames.{to_do, rest_at, turn_at, turns_of, turns_at, put_of, put_at, todos_in, todos_of, scope_in, scope_of_step, is_more, IsSettled, IsFirst}
+use Rattle.sv_process.specs.Calls.{call_in, called_at, end_at, end_of_call, end_of_form, end_of_routine, return_of}
+use Rattle.sv_process.specs.Frames.{to_do, rest_at, turn_at, turns_of, turns_at, elements_at, put_of, put_at, todos_in, todos_of, is_more, IsSettled, IsFirst}
 
 some_same : {a b : Frame} → Some a ≡ Some b → a ≡ b
 some_same h = cc
@@ -106,6 +112,14 @@ by_entry d xs f t us g e =
     let split = last_first xs f g in
     subst (λ u. todos_of d u ≡ t ∷ drop 1 (todos_of d u)) (sym split) (first_of_all (todos_in d f) us t e (todos_of d (drop 1 (reverse xs))))
 
+-- the end of a call, by what is called
+pub end_is : (d : Parts) (p : Position) (n : Option ℕ) (s : Stmt) (c : Call) (r : RoutineId) (as' : List Argument) (u : Subroutine) (callee caller : Option Name)
+    → stmt_at d p ≡ Some s → call_in s n ≡ Some c → c.form ≡ call.Routine r None as' → (routine_of d r).subroutine ≡ Some u
+    → end_at d (stmt_at d p) n callee caller ≡ Leave s.at (return_of u as' c.result callee caller) ∷ []
+end_is d p n s c r as' u callee caller at number is found =
+    ap (λ o. end_at d o n callee caller) at ∙ ap (λ o. end_of_call d s.at o callee caller) number
+    ∙ ap (λ f. end_of_form d s.at c.result f callee caller) is ∙ ap (λ o. end_of_routine s.at c.result as' callee caller o) found
+
 -- the last entry comes first
 pub first_entry : (d : Parts) (xs : List Frame) (f : Frame) → slice_get xs (length xs - 1) ≡ Some f → IsFirst d f (todos_of d (reverse xs))
 first_entry d xs (frame.Rest p scope) g = λ s at.
@@ -114,55 +128,19 @@ first_entry d xs (frame.Rest p scope) g = λ s at.
 first_entry d xs (frame.Loop p scope) g = λ s at. by_entry d xs (frame.Loop p scope) (Turn s scope) [] g (ap (λ o. turn_at o scope) at)
 first_entry d xs (frame.Turns p n scope) g = λ s e body at is.
     by_entry d xs (frame.Turns p n scope) (Turns s.at n body scope) [] g (ap (λ o. turns_at o n scope) at ∙ ap (λ f. turns_of s.at f n scope) is)
+first_entry d xs (frame.Elements p n scope) g = λ s at. by_entry d xs (frame.Elements p n scope) (Walk_elements s n scope) [] g (ap (λ o. elements_at o n scope) at)
 first_entry d xs (frame.Put p x scope) g = λ s to e delay t at is.
     by_entry d xs (frame.Put p x scope) (Put s.at to x scope) [] g (ap (λ o. put_at o x scope) at ∙ ap (λ f. put_of s.at f x scope) is)
+first_entry d xs (frame.Called p n outer hidden) g = λ s at.
+    by_entry d xs (frame.Called p n outer hidden) (Do s (drop n s.calls) outer hidden) [] g (ap (λ o. called_at o n outer hidden) at)
+first_entry d xs (frame.Leave p n callee caller) g = λ s c r as' u at number is found.
+    by_entry d xs (frame.Leave p n callee caller) (Leave s.at (return_of u as' c.result callee caller)) [] g
+    (end_is d p n s c r as' u callee caller at number is found)
 
 -- where there is no entry
 pub no_entry : (xs : List Frame) → length xs ≡ 0 → reverse xs ≡ []
 no_entry [] h = refl
 no_entry (x ∷ xs) h = absurd (omega arith)
-
--- ---- the scope of what comes first
-
-pub no_scope : (d : Parts) (xs : List Frame) → length xs ≡ 0 → None ≡ scope_of_step (todos_of d (reverse xs))
-no_scope d [] h = refl
-no_scope d (x ∷ xs) h = absurd (omega arith)
-
-scope_at : (d : Parts) (f : Frame) (ts : List Todo) → is_more (todos_in d f) ≡ true → scope_in f ≡ scope_of_step (todos_in d f ++ ts)
-scope_at d (frame.Rest p scope) ts h = by_stmts (drop p.place (body_of d p.routine)) h
-  where
-    by_stmts : (ss : List Stmt) → is_more (map (to_do scope) ss) ≡ true → scope ≡ scope_of_step (map (to_do scope) ss ++ ts)
-    by_stmts [] h = cc
-    by_stmts (s ∷ ss) h = refl
-scope_at d (frame.Loop p scope) ts h = by_stmt (stmt_at d p) h
-  where
-    by_stmt : (o : Option Stmt) → is_more (turn_at o scope) ≡ true → scope ≡ scope_of_step (turn_at o scope ++ ts)
-    by_stmt None h = cc
-    by_stmt (Some s) h = refl
-scope_at d (frame.Turns p n scope) ts h = by_stmt (stmt_at d p) h
-  where
-    by_form : (at : Place) (f : Form) → is_more (turns_of at f n scope) ≡ true → scope ≡ scope_of_step (turns_of at f n scope ++ ts)
-    by_form at (form.Repeat e body) h = refl
-    by_form at f h = cc
-
-    by_stmt : (o : Option Stmt) → is_more (turns_at o n scope) ≡ true → scope ≡ scope_of_step (turns_at o n scope ++ ts)
-    by_stmt None h = cc
-    by_stmt (Some s) h = by_form s.at s.form h
-scope_at d (frame.Put p x scope) ts h = by_stmt (stmt_at d p) h
-  where
-    by_form : (at : Place) (f : Form) → is_more (put_of at f x scope) ≡ true → scope ≡ scope_of_step (put_of at f x scope ++ ts)
-    by_form at (form.AssignAfter to e delay in_ticks) h = refl
-    by_form at f h = cc
-
-    by_stmt : (o : Option Stmt) → is_more (put_at o x scope) ≡ true → scope ≡ scope_of_step (put_at o x scope ++ ts)
-    by_stmt None h = cc
-    by_stmt (Some s) h = by_form s.at s.form h
-
-pub first_scope : (d : Parts) (xs : List Frame) (f : Frame) → slice_get xs (length xs - 1) ≡ Some f → IsSettled d (reverse xs)
-    → scope_in f ≡ scope_of_step (todos_of d (reverse xs))
-first_scope d xs f g h =
-    let split = last_first xs f g in
-    scope_at d f (todos_of d (drop 1 (reverse xs))) (subst (IsSettled d) split h) ∙ sym (ap (λ (fs : List Frame). scope_of_step (todos_of d fs)) split)
 
 -- ---- what is left after it
 
@@ -244,6 +222,15 @@ left_turns d xs ys p n scope e h = left_one d xs ys (frame.Turns p n scope) e (b
     by_stmt None h ts = cc
     by_stmt (Some s) h ts = by_form s.at s.form h ts
 
+pub left_elements : (d : Parts) (xs ys : List Frame) (p : Position) (n : ℕ) (scope : Option Name) → xs ≡ ys ++ frame.Elements p n scope ∷ []
+    → IsSettled d (reverse xs) → todos_of d (reverse ys) ≡ drop 1 (todos_of d (reverse xs))
+left_elements d xs ys p n scope e h =
+    left_one d xs ys (frame.Elements p n scope) e (by_stmt (stmt_at d p) (settled_top d xs ys (frame.Elements p n scope) e h))
+  where
+    by_stmt : (o : Option Stmt) → is_more (elements_at o n scope) ≡ true → (ts : List Todo) → ts ≡ drop 1 (elements_at o n scope ++ ts)
+    by_stmt None h ts = cc
+    by_stmt (Some s) h ts = refl
+
 pub left_put : (d : Parts) (xs ys : List Frame) (p : Position) (x : Val) (scope : Option Name) → xs ≡ ys ++ frame.Put p x scope ∷ []
     → IsSettled d (reverse xs) → todos_of d (reverse ys) ≡ drop 1 (todos_of d (reverse xs))
 left_put d xs ys p x scope e h = left_one d xs ys (frame.Put p x scope) e (by_stmt (stmt_at d p) (settled_top d xs ys (frame.Put p x scope) e h))
@@ -255,6 +242,39 @@ left_put d xs ys p x scope e h = left_one d xs ys (frame.Put p x scope) e (by_st
     by_stmt : (o : Option Stmt) → is_more (put_at o x scope) ≡ true → (ts : List Todo) → ts ≡ drop 1 (put_at o x scope ++ ts)
     by_stmt None h ts = cc
     by_stmt (Some s) h ts = by_form s.at s.form h ts
+
+pub left_called : (d : Parts) (xs ys : List Frame) (p : Position) (n : ℕ) (outer hidden : Option Name) → xs ≡ ys ++ frame.Called p n outer hidden ∷ []
+    → IsSettled d (reverse xs) → todos_of d (reverse ys) ≡ drop 1 (todos_of d (reverse xs))
+left_called d xs ys p n outer hidden e h =
+    left_one d xs ys (frame.Called p n outer hidden) e (by_stmt (stmt_at d p) (settled_top d xs ys (frame.Called p n outer hidden) e h))
+  where
+    by_stmt : (o : Option Stmt) → is_more (called_at o n outer hidden) ≡ true → (ts : List Todo) → ts ≡ drop 1 (called_at o n outer hidden ++ ts)
+    by_stmt None h ts = cc
+    by_stmt (Some s) h ts = refl
+
+one_end : (d : Parts) (o : Option Stmt) (n : Option ℕ) (callee caller : Option Name) → is_more (end_at d o n callee caller) ≡ true → (ts : List Todo)
+    → ts ≡ drop 1 (end_at d o n callee caller ++ ts)
+one_end d None n callee caller h ts = cc
+one_end d (Some s) n callee caller h ts = by_call (call_in s n) h
+  where
+    by_routine : (at : Place) (hidden : Option ℕ) (as' : List Argument) (u : Option Subroutine) → is_more (end_of_routine at hidden as' callee caller u) ≡ true
+        → ts ≡ drop 1 (end_of_routine at hidden as' callee caller u ++ ts)
+    by_routine at hidden as' None h = cc
+    by_routine at hidden as' (Some u) h = refl
+
+    by_form : (at : Place) (hidden : Option ℕ) (f : CallForm) → is_more (end_of_form d at hidden f callee caller) ≡ true
+        → ts ≡ drop 1 (end_of_form d at hidden f callee caller ++ ts)
+    by_form at hidden (call.Routine r None as') h = by_routine at hidden as' (routine_of d r).subroutine h
+    by_form at hidden f h = cc
+
+    by_call : (c : Option Call) → is_more (end_of_call d s.at c callee caller) ≡ true → ts ≡ drop 1 (end_of_call d s.at c callee caller ++ ts)
+    by_call None h = cc
+    by_call (Some c) h = by_form s.at c.result c.form h
+
+pub left_end : (d : Parts) (xs ys : List Frame) (p : Position) (n : Option ℕ) (callee caller : Option Name) → xs ≡ ys ++ frame.Leave p n callee caller ∷ []
+    → IsSettled d (reverse xs) → todos_of d (reverse ys) ≡ drop 1 (todos_of d (reverse xs))
+left_end d xs ys p n callee caller e h =
+    left_one d xs ys (frame.Leave p n callee caller) e (one_end d (stmt_at d p) n callee caller (settled_top d xs ys (frame.Leave p n callee caller) e h))
 
 -- whether something is left, by the number of entries
 pub more_left : (d : Parts) (xs : List Frame) → IsSettled d (reverse xs) → is_more (todos_of d (reverse xs)) ≡ not (length xs == 0)

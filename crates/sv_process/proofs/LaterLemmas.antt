@@ -5,8 +5,6 @@ use Rattle.std.proofs.lemmas.List.{append_assoc}
 use Rattle.sv_value.specs.declared.place.FaultKind.{FaultKind}
 use Rattle.sv_value.specs.declared.place.FaultKind.TheVariants as fault
 use Rattle.sv_value.specs.declared.val.Val.{Val}
-use Rattle.sv_value.specs.declared.target.Target.{Target}
-use Rattle.sv_value.specs.declared.target.Target.TheVariants as target
 use Rattle.sv_value.specs.declared.schedule.Update.{Update}
 use Rattle.sv_value.specs.declared.schedule.Job.TheVariants as job
 use Rattle.sv_flat.specs.declared.target.Lvalue.{Lvalue}
@@ -18,6 +16,8 @@ use Rattle.sv_flat.specs.Process.{Todo, Spot, Update_at}
 use Rattle.sv_flat.specs.Statements.Delays.{ticks_of}
 use Rattle.sv_flat.specs.Statements.Shared.{Effects, goes_on, value_in, from_result, fails, computed, updates_for}
 use Rattle.sv_flat.specs.Targets.{spot_of, spots_of, target_values}
+use Rattle.sv_assign.specs.declared.spot.Spot.{Spot as Own_spot}
+use Rattle.sv_assign.specs.declared.spot.Spot.TheVariants as spot
 use Rattle.sv_assign.specs.Places.{spot_in, spots_in}
 use Rattle.sv_process.specs.declared.effect.Effect.{Effect as Own_effect}
 use Rattle.sv_process.specs.declared.effect.Effect.TheVariants as effect
@@ -30,25 +30,23 @@ use Rattle.sv_process.specs.Parts.{updates, Reaches}
 -- ---- updates
 
 -- the first update, and the others
-one_then : (t : Target) (x : Val) (ss : List Spot) (vs : List Val) → updates_for (spot_in t ∷ ss) (x ∷ vs) ≡ updates_for (spot_in t ∷ []) (x ∷ []) ++ updates_for ss vs
-one_then (target.Object t) x ss vs = refl
-one_then (target.Local a i r) x ss vs = refl
-one_then (target.Field k i r) x ss vs = refl
-one_then (target.Item h i r) x ss vs = refl
-one_then target.Nothing x ss vs = refl
+one_then : (t : Own_spot) (x : Val) (ss : List Spot) (vs : List Val) → updates_for (spot_in t ∷ ss) (x ∷ vs) ≡ updates_for (spot_in t ∷ []) (x ∷ []) ++ updates_for ss vs
+one_then (spot.Cell t) x ss vs = refl
+one_then (spot.Variable n i r) x ss vs = refl
+one_then spot.Nowhere x ss vs = refl
 
-pub first_updated : (us more : List Update) (ts rest : List Target) (vs ws : List Val) (t : Target) (x : Val)
+pub first_updated : (us more : List Update) (ts rest : List Own_spot) (vs ws : List Val) (t : Own_spot) (x : Val)
     → ts ≡ t ∷ rest → vs ≡ x ∷ ws → more ≡ us ++ updates_for (spot_in t ∷ []) (x ∷ [])
     → more ++ updates_for (spots_in rest) ws ≡ us ++ updates_for (spots_in ts) vs
 first_updated us more ts rest vs ws t x e f g =
     ap (λ u. u ++ updates_for (spots_in rest) ws) g ∙ append_assoc us (updates_for (spot_in t ∷ []) (x ∷ [])) (updates_for (spots_in rest) ws)
     ∙ ap (λ u. us ++ u) (sym (one_then t x (spots_in rest) ws)) ∙ sym (λ i. us ++ updates_for (spots_in (e i)) (f i))
 
-pub without_places : (ts : List Target) (vs : List Val) → length ts ≡ 0 → updates_for (spots_in ts) vs ≡ []
+pub without_places : (ts : List Own_spot) (vs : List Val) → length ts ≡ 0 → updates_for (spots_in ts) vs ≡ []
 without_places [] vs h = refl
 without_places (t ∷ ts) vs h = absurd (omega arith)
 
-pub without_values : (ts : List Target) (vs : List Val) → length vs ≡ 0 → updates_for (spots_in ts) vs ≡ []
+pub without_values : (ts : List Own_spot) (vs : List Val) → length vs ≡ 0 → updates_for (spots_in ts) vs ≡ []
 without_values [] vs h = refl
 without_values (t ∷ ts) [] h = no_update (spot_in t) (spots_in ts)
   where

@@ -8,3 +8,10 @@ pub mod AssignLemmas
 pub mod LaterLemmas
 pub mod StepLemmas
 pub mod CaseLemmas
+pub mod CallLemmas
+pub mod LeaveLemmas
+pub mod DepthLemmas
+pub mod ReturnLemmas
+pub mod BlockLemmas
+pub mod ElementLemmas
+pub mod FormLemmas

@@ -1,5 +1,5 @@
 -- What a process waits for.
-use Rattle.std.proofs.Common.{ℕ, ◌≡◌, ◌+◌, ◌<◌, ◌^◌, zero, suc, Bool, List, [], ◌∷◌, Option, None, Some, true, false, refl, ap, subst, sym, ◌∙◌, arith}
+use Rattle.std.proofs.Common.{ℕ, ◌≡◌, ◌+◌, ◌<◌, ◌^◌, zero, suc, Bool, List, [], ◌∷◌, Option, None, Some, true, false, length, drop, ◌++◌, refl, ap, subst, sym, ◌∙◌, arith}
 use Rattle.std.specs.Prelude.{if◌then◌else◌, nat_lt, option_map, Ok}
 use Rattle.std.specs.List.{AllByRecursion}
 use Rattle.sv_value.specs.declared.place.FaultKind.TheVariants as fault
@@ -8,6 +8,7 @@ use Rattle.sv_value.specs.Operators.{is_true}
 use Rattle.sv_flat.specs.declared.process.Edge.TheVariants.{Change}
 use Rattle.sv_flat.specs.declared.process.Watch.{Watch}
 use Rattle.sv_flat.specs.declared.process.Watch.TheVariants.{On}
+use Rattle.sv_flat.specs.declared.call.Call.{Call}
 use Rattle.sv_flat.specs.declared.stmt.Stmt.{Stmt}
 use Rattle.sv_flat.specs.declared.stmt.Form.TheVariants as form
 use Rattle.sv_flat.specs.declared.design.Parts.{Parts}
@@ -20,12 +21,15 @@ use Rattle.sv_flat.specs.Statements.Events.{frozen, frozen_watch, frozen_watches
 use Rattle.sv_flat.specs.Statements.Shared.{goes_on, waits, value_in, from_result}
 use Rattle.sv_built.specs.declared.position.Position.{Position}
 use Rattle.sv_built.specs.declared.wait.Wait.TheVariants as wait
-use Rattle.sv_built.specs.Built.{IsBuiltExpr, IsBuiltOptional, IsBuiltWatch}
+use Rattle.sv_built.specs.Built.{IsStaticExpr, IsStaticOptional, IsBuiltWatch}
 use Rattle.sv_built.specs.Positions.{stmt_at}
 use Rattle.sv_built.specs.Waits.{control_of, condition_of, in_stmt, watches_at}
 use Rattle.sv_process.specs.declared.effect.Effect.{Effect as Own_effect}
 use Rattle.sv_process.specs.declared.effect.Effect.TheVariants as effect
 use Rattle.sv_process.specs.declared.frames.Frame.{Frame}
+use Rattle.sv_process.specs.declared.frames.Frame.TheVariants as frame
+use Rattle.sv_process.specs.Calls.{called_at}
+use Rattle.sv_process.specs.Frames.{todos_of}
 use Rattle.sv_process.specs.Effects.{effect_in, Leaves}
 
 -- ---- delays
@@ -67,7 +71,7 @@ delayed_by d fs es mid rest e v x in_ticks f valued does left h =
 
 -- ---- what reads objects alone is as it is written
 
-pub frozen_same : (e : Expr) (v : View) → IsBuiltExpr e → frozen e v ≡ e
+pub frozen_same : (e : Expr) (v : View) → IsStaticExpr e → frozen e v ≡ e
 frozen_same (Literal x f) v h = refl
 frozen_same (Text b) v h = refl
 frozen_same (Object at o t) v h = refl
@@ -88,7 +92,7 @@ frozen_same (Name is a) v h = ap (λ b. Name is b) (frozen_same a v h)
 frozen_same (Printed f p a) v h = ap (λ b. Printed f p b) (frozen_same a v h)
 frozen_same e v h = absurd h
 
-frozen_optional : (c : Option Expr) (v : View) → IsBuiltOptional c → option_map (λ a. frozen a v) c ≡ c
+frozen_optional : (c : Option Expr) (v : View) → IsStaticOptional c → option_map (λ a. frozen a v) c ≡ c
 frozen_optional None v h = refl
 frozen_optional (Some e) v h = ap Some (frozen_same e v h)
 
@@ -113,27 +117,38 @@ as_written d fs es mid ts p s ws scope v at is built left h =
 -- ---- `wait`
 
 -- what a `wait` does for a value
-abbrev pub waited : Stmt → Expr → Option Name_of → View → List Todo → Val → List Effect
-waited s e scope v rest x =
+abbrev pub waited : Stmt → Expr → (outer scope : Option Name_of) → View → List Todo → Val → List Effect
+waited s e outer scope v rest x =
     if is_true (vector_in x) then goes_on rest []
-    else waits (Do s [] scope None ∷ rest) (Suspend (Watches (On (frozen e v) Change None ∷ []) scope) ∷ [])
+    else waits (Do s [] outer None ∷ rest) (Suspend (Watches (On (frozen e v) Change None ∷ []) scope) ∷ [])
 
-pub holds : (d : Parts) (fs : List Frame) (es : List Own_effect) (mid rest : List Todo) (s : Stmt) (e : Expr) (scope : Option Name_of) (v : View) (x : Val)
+-- the same by whether it is true
+abbrev pub waited_by : Bool → Stmt → Expr → (outer scope : Option Name_of) → View → List Todo → List Effect
+waited_by b s e outer scope v rest =
+    if b then goes_on rest [] else waits (Do s [] outer None ∷ rest) (Suspend (Watches (On (frozen e v) Change None ∷ []) scope) ∷ [])
+
+pub holds : (d : Parts) (fs : List Frame) (es : List Own_effect) (mid rest : List Todo) (s : Stmt) (e : Expr) (outer scope : Option Name_of) (v : View) (x : Val)
     → value_of e v ≡ Ok x → is_true (vector_in x) ≡ true → mid ≡ rest → Leaves d fs es (goes_on mid [])
-    → Leaves d fs es (value_in e v (waited s e scope v rest))
-holds d fs es mid rest s e scope v x is true_is left g =
-    let h : Leaves d fs es (goes_on rest []) = subst (λ us. Leaves d fs es (goes_on us [])) left g in
-    subst (Leaves d fs es) (sym (ap (λ r. from_result r (waited s e scope v rest)) is
-    ∙ ap (λ (b : Bool). if b then goes_on rest [] else waits (Do s [] scope None ∷ rest) (Suspend (Watches (On (frozen e v) Change None ∷ []) scope) ∷ [])) true_is)) h
+    → Leaves d fs es (value_in e v (waited s e outer scope v rest))
+holds d fs es mid rest s e outer scope v x is true_is left g =
+    subst (Leaves d fs es) (sym (ap (λ r. from_result r (waited s e outer scope v rest)) is ∙ ap (λ (b : Bool). waited_by b s e outer scope v rest) true_is))
+    (subst (λ us. Leaves d fs es (goes_on us [])) left g)
 
-pub waits_on : (d : Parts) (fs : List Frame) (es : List Own_effect) (old rest : List Todo) (p : Position) (s : Stmt) (e : Expr) (scope : Option Name_of) (v : View) (x : Val)
-    → stmt_at d p ≡ Some s → s.form ≡ form.Wait e → IsBuiltExpr e → old ≡ Do s [] scope None ∷ rest
-    → value_of e v ≡ Ok x → is_true (vector_in x) ≡ false → Leaves d fs es (waits old (effect_in d (effect.Watch (wait.Condition p) scope) ∷ []))
-    → Leaves d fs es (value_in e v (waited s e scope v rest))
-waits_on d fs es old rest p s e scope v x at is built comes valued false_is h =
+-- no call is left
+all_made : (cs : List Call) → drop (length cs) cs ≡ []
+all_made [] = refl
+all_made (c ∷ cs) = all_made cs
+
+pub waits_on : (d : Parts) (fs mid left : List Frame) (es : List Own_effect) (rest : List Todo) (p : Position) (s : Stmt) (e : Expr) (outer scope : Option Name_of) (v : View)
+    (x : Val) (n : ℕ) → stmt_at d p ≡ Some s → s.form ≡ form.Wait e → IsStaticExpr e → n ≡ length s.calls → todos_of d left ≡ rest → mid ≡ frame.Called p n outer None ∷ left
+    → value_of e v ≡ Ok x → is_true (vector_in x) ≡ false → Leaves d fs es (waits (todos_of d mid) (effect_in d (effect.Watch (wait.Condition p) scope) ∷ []))
+    → Leaves d fs es (value_in e v (waited s e outer scope v rest))
+waits_on d fs mid left es rest p s e outer scope v x n at is built count rests pushed valued false_is h =
     let here : watches_at d (wait.Condition p) ≡ On (frozen e v) Change None ∷ [] =
     ap (in_stmt condition_of) at ∙ ap condition_of is ∙ ap (λ a. On a Change None ∷ []) (sym (frozen_same e v built)) in
-    subst (Leaves d fs es) (sym (ap (λ r. from_result r (waited s e scope v rest)) valued
-    ∙ ap (λ (b : Bool). if b then goes_on rest [] else waits (Do s [] scope None ∷ rest) (Suspend (Watches (On (frozen e v) Change None ∷ []) scope) ∷ [])) false_is))
-    (subst (λ us. Leaves d fs es (waits us (Suspend (Watches (On (frozen e v) Change None ∷ []) scope) ∷ []))) comes
-    (subst (λ ws. Leaves d fs es (waits old (Suspend (Watches ws scope) ∷ []))) here h))
+    let all : todos_of d mid ≡ Do s [] outer None ∷ rest =
+    ap (todos_of d) pushed ∙ ap (λ o. called_at o n outer None ++ todos_of d left) at
+    ∙ ap (λ cs. Do s cs outer None ∷ todos_of d left) (ap (λ k. drop k s.calls) count ∙ all_made s.calls) ∙ ap (λ us. Do s [] outer None ∷ us) rests in
+    subst (Leaves d fs es) (sym (ap (λ r. from_result r (waited s e outer scope v rest)) valued ∙ ap (λ (b : Bool). waited_by b s e outer scope v rest) false_is))
+    (subst (λ us. Leaves d fs es (waits us (Suspend (Watches (On (frozen e v) Change None ∷ []) scope) ∷ []))) all
+    (subst (λ ws. Leaves d fs es (waits (todos_of d mid) (Suspend (Watches ws scope) ∷ []))) here h))

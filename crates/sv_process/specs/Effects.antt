@@ -1,13 +1,16 @@
 -- The effects of a step, as the definitions have them.
-use Rattle.std.specs.Prelude.{◌≡◌, List, [], ◌∷◌, Option, None, Some, Result, Ok, Err, map}
+use Rattle.std.specs.Prelude.{◌≡◌, Bool, true, false, List, [], ◌∷◌, ◌++◌, Option, None, Some, Result, Ok, Err, map}
+use Rattle.sv_value.specs.declared.place.FaultKind.{FaultKind}
 use Rattle.sv_flat.specs.declared.stmt.Stmt.{Stmt}
 use Rattle.sv_flat.specs.declared.stmt.Form.{Form}
 use Rattle.sv_flat.specs.declared.stmt.Form.TheVariants as form
 use Rattle.sv_flat.specs.declared.stmt.PrintKind.TheVariants as print
 use Rattle.sv_flat.specs.declared.design.Parts.{Parts}
-use Rattle.sv_flat.specs.Process.{Remain, Write, Suspend, Resume_at, Update_at, Print_text, Keep_print, Finish_run, End, Fail}
+use Rattle.sv_flat.specs.Eval.{with_result}
+use Rattle.sv_flat.specs.Process.{Remain, Enter, Write, Suspend, Resume_at, Update_at, Print_text, Keep_print, Finish_run, End, Fail}
 use Rattle.sv_flat.specs.Process.{Effect, Turn_in_slot, Watches}
 use Rattle.sv_flat.specs.Statements.Shared.{Effects, fails}
+use Rattle.sv_built.specs.Entered.{types_at}
 use Rattle.sv_built.specs.Positions.{stmt_at}
 use Rattle.sv_built.specs.Waits.{watches_at}
 use Rattle.sv_eval.specs.declared.stopped.Stopped.{Stopped}
@@ -18,7 +21,7 @@ use Rattle.sv_process.specs.declared.frames.Frame.{Frame}
 use Rattle.sv_process.specs.declared.went.Went.{Went}
 use Rattle.sv_process.specs.declared.went.Went.TheVariants as went
 use Rattle.sv_process.specs.Frames.{todos_of}
-use Rattle.sv_assign.specs.Places.{spot_in}
+use Rattle.sv_assign.specs.Places.{Stops, spot_in}
 
 -- what a `$strobe` prints as the slot ends
 abbrev pub strobe_of : Form → Effect
@@ -32,7 +35,8 @@ strobe_at (Some s) = strobe_of s.form
 
 -- an effect
 abbrev pub effect_in : Parts → Own_effect → Effect
-effect_in d (effect.Write t x) = Write (spot_in t) x
+effect_in d (effect.Write s x) = Write (spot_in s) x
+effect_in d (effect.Enter e around) = Enter (types_at d e) around
 effect_in d effect.Turn = Suspend Turn_in_slot
 effect_in d (effect.Watch w scope) = Suspend (Watches (watches_at d w) scope)
 effect_in d (effect.ResumeAt t) = Resume_at t
@@ -51,6 +55,15 @@ effects_in d es = map (effect_in d) es
 abbrev pub effects_of : Parts → Went → List Frame → List Own_effect → Effects
 effects_of d went.On fs es = Remain (todos_of d fs) ∷ effects_in d es
 effects_of d went.Held fs es = effects_in d es
+effects_of d (went.Entered e around) fs es = Enter (types_at d e) around ∷ Remain (todos_of d fs) ∷ effects_in d es
+effects_of d (went.EnteredHeld e around) fs es = Enter (types_at d e) around ∷ effects_in d es
+
+-- whether a step left all as it was
+abbrev pub is_held : Went → Bool
+is_held went.On = false
+is_held went.Held = true
+is_held (went.Entered e around) = false
+is_held (went.EnteredHeld e around) = true
 
 -- a step leaves these entries, and does these effects
 abbrev pub Leaves : Parts → List Frame → List Own_effect → Effects → Type 0
@@ -75,3 +88,14 @@ OnFault Memory P = Unit {0}
 abbrev pub IsKept : {A : Type 0} → Result A Stopped → (old new : List Frame) → Type 0
 IsKept (Ok x) old new = Unit {0}
 IsKept (Err e) old new = OnFault e (new ≡ old)
+
+-- ---- effects behind others
+
+-- effects, unless a fault is met, behind others
+abbrev pub behind : Effects → Result Effects FaultKind → Result Effects FaultKind
+behind before r = with_result r (λ more. Ok (before ++ more))
+
+-- these effects were put behind the others, or this fault is met, or memory ran out
+abbrev pub Puts : {A : Type 0} → Parts → Result A Stopped → (old new : List Own_effect) → Result Effects FaultKind → Type 0
+Puts d (Ok x) old new r = behind (effects_in d old) r ≡ Ok (effects_in d new)
+Puts d (Err e) old new r = Stops e r

@@ -7,14 +7,19 @@ use Rattle.sv_flat.specs.declared.target.Lvalue.{Lvalue}
 use Rattle.sv_flat.specs.declared.stmt.Stmt.{Stmt}
 use Rattle.sv_flat.specs.declared.stmt.Form.{Form}
 use Rattle.sv_flat.specs.declared.stmt.Form.TheVariants as form
+use Rattle.sv_flat.specs.declared.call.Argument.{Argument}
+use Rattle.sv_flat.specs.declared.call.Call.{Call}
+use Rattle.sv_flat.specs.declared.call.CallForm.TheVariants as call
+use Rattle.sv_flat.specs.declared.class.Subroutine.{Subroutine}
 use Rattle.sv_flat.specs.declared.design.Parts.{Parts}
 use Rattle.sv_flat.specs.Expr.{Expr}
 use Rattle.sv_flat.specs.State.{View, Name}
 use Rattle.sv_flat.specs.Micro.{Looks}
-use Rattle.sv_flat.specs.Process.{Todo, Do, Turn, Turns, Walk, Walk_elements, Start_children, Leave, Receive, Put}
+use Rattle.sv_flat.specs.Process.{Todo, Do, Turn, Turns, Walk_elements, Leave, Put, routine_of}
 use Rattle.sv_flat.specs.Statements.Jumps.{step_of}
 use Rattle.sv_built.specs.declared.position.Position.{Position}
 use Rattle.sv_built.specs.Positions.{body_of, stmt_at}
+use Rattle.sv_process.specs.Calls.{call_in, called_at, end_at, return_of, seen_from}
 use Rattle.sv_process.specs.declared.frames.Frame.{Frame}
 use Rattle.sv_process.specs.declared.frames.Frame.TheVariants as frame
 
@@ -41,6 +46,11 @@ abbrev pub turns_at : Option Stmt → ℕ → (scope : Option Name) → List Tod
 turns_at None n scope = []
 turns_at (Some s) n scope = turns_of s.at s.form n scope
 
+-- the walk of a `foreach` of a fixed array, after so many elements
+abbrev pub elements_at : Option Stmt → ℕ → (scope : Option Name) → List Todo
+elements_at None n scope = []
+elements_at (Some s) n scope = Walk_elements s n scope ∷ []
+
 -- what is left of an `a = #d e`
 abbrev pub put_of : Place → Form → Val → (scope : Option Name) → List Todo
 put_of at (form.AssignAfter ts e delay in_ticks) x scope = Put at ts x scope ∷ []
@@ -56,14 +66,20 @@ abbrev pub todos_in : Parts → Frame → List Todo
 todos_in d (frame.Rest p scope) = rest_at d p scope
 todos_in d (frame.Loop p scope) = turn_at (stmt_at d p) scope
 todos_in d (frame.Turns p n scope) = turns_at (stmt_at d p) n scope
+todos_in d (frame.Elements p n scope) = elements_at (stmt_at d p) n scope
 todos_in d (frame.Put p x scope) = put_at (stmt_at d p) x scope
+todos_in d (frame.Called p n outer hidden) = called_at (stmt_at d p) n outer hidden
+todos_in d (frame.Leave p n callee caller) = end_at d (stmt_at d p) n callee caller
 
 -- the scope in which the statements of an entry run
 abbrev pub scope_in : Frame → Option Name
 scope_in (frame.Rest p scope) = scope
 scope_in (frame.Loop p scope) = scope
 scope_in (frame.Turns p n scope) = scope
+scope_in (frame.Elements p n scope) = scope
 scope_in (frame.Put p x scope) = scope
+scope_in (frame.Called p n outer hidden) = seen_from outer hidden
+scope_in (frame.Leave p n callee caller) = callee
 
 -- what a stack stands for, innermost first
 abbrev pub todos_of : Parts → List Frame → List Todo
@@ -86,33 +102,20 @@ IsFirst d (frame.Rest p scope) ts = (s : Stmt) → stmt_at d p ≡ Some s → ts
 IsFirst d (frame.Loop p scope) ts = (s : Stmt) → stmt_at d p ≡ Some s → ts ≡ Turn s scope ∷ drop 1 ts
 IsFirst d (frame.Turns p n scope) ts =
     (s : Stmt) (e : Expr) (body : RoutineId) → stmt_at d p ≡ Some s → s.form ≡ form.Repeat e body → ts ≡ Turns s.at n body scope ∷ drop 1 ts
+IsFirst d (frame.Elements p n scope) ts = (s : Stmt) → stmt_at d p ≡ Some s → ts ≡ Walk_elements s n scope ∷ drop 1 ts
 IsFirst d (frame.Put p x scope) ts =
     (s : Stmt) (to : List Lvalue) (e delay : Expr) (in_ticks : Bool) → stmt_at d p ≡ Some s → s.form ≡ form.AssignAfter to e delay in_ticks
     → ts ≡ Put s.at to x scope ∷ drop 1 ts
+IsFirst d (frame.Called p n outer hidden) ts = (s : Stmt) → stmt_at d p ≡ Some s → ts ≡ Do s (drop n s.calls) outer hidden ∷ drop 1 ts
+IsFirst d (frame.Leave p n callee caller) ts =
+    (s : Stmt) (c : Call) (r : RoutineId) (as' : List Argument) (u : Subroutine) → stmt_at d p ≡ Some s → call_in s n ≡ Some c
+    → c.form ≡ call.Routine r None as' → (routine_of d r).subroutine ≡ Some u → ts ≡ Leave s.at (return_of u as' c.result callee caller) ∷ drop 1 ts
 
 -- ---- scopes
 
--- the scope that the expressions of a statement see: where it has calls, the activation of its hidden variables
-abbrev pub seen_from : (outer hidden : Option Name) → Option Name
-seen_from outer None = outer
-seen_from outer (Some n) = Some n
-
--- the scope that the next step sees first
-abbrev pub scope_of_step : List Todo → Option Name
-scope_of_step [] = None
-scope_of_step (Do s cs outer hidden ∷ ts) = seen_from outer hidden
-scope_of_step (Turn s scope ∷ ts) = scope
-scope_of_step (Turns at n body scope ∷ ts) = scope
-scope_of_step (Walk s i outer scope ∷ ts) = outer
-scope_of_step (Walk_elements s n scope ∷ ts) = scope
-scope_of_step (Start_children at cs j scope ∷ ts) = scope
-scope_of_step (Leave at r ∷ ts) = r.callee
-scope_of_step (Receive at to w scope ∷ ts) = scope
-scope_of_step (Put at to x scope ∷ ts) = scope
-
--- what comes first of a stack sees this
-abbrev pub Sees : Parts → Looks → List Frame → View → Type 0
-Sees d look fs v = look (scope_of_step (todos_of d fs)) ≡ v
+-- each scope sees this
+abbrev pub SeesAll : Looks → (Option Name → View) → Type 0
+SeesAll look v = (scope : Option Name) → look scope ≡ v scope
 
 -- ---- loops
 
@@ -121,7 +124,10 @@ abbrev pub is_turn : Parts → Frame → Bool
 is_turn d (frame.Rest p scope) = false
 is_turn d (frame.Loop p scope) = is_more (turn_at (stmt_at d p) scope)
 is_turn d (frame.Turns p n scope) = is_more (turns_at (stmt_at d p) n scope)
+is_turn d (frame.Elements p n scope) = is_more (elements_at (stmt_at d p) n scope)
 is_turn d (frame.Put p x scope) = false
+is_turn d (frame.Called p n outer hidden) = false
+is_turn d (frame.Leave p n callee caller) = false
 
 -- what the loop that stands somewhere does after its body
 abbrev pub step_at : Option Stmt → Option RoutineId
@@ -132,3 +138,10 @@ step_at (Some s) = step_of s.form
 abbrev pub step_in : Parts → Frame → Option RoutineId
 step_in d (frame.Loop p scope) = step_at (stmt_at d p)
 step_in d f = None
+
+-- ---- calls
+
+-- whether an entry is the end of a call
+abbrev pub is_end : Parts → Frame → Bool
+is_end d (frame.Leave p n callee caller) = is_more (end_at d (stmt_at d p) n callee caller)
+is_end d f = false

@@ -1,3 +1,5 @@
+-- ---- what is left of calls
+pub mod Calls
 -- ---- what a process has still to run
 pub mod Frames
 -- ---- what a step does

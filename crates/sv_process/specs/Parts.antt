@@ -37,7 +37,7 @@ Reaches (Ok t) v n = (t ≡ v.now + n) × (nat_lt (v.now + n) (2 ^ 63) ≡ true)
 Reaches (Err (Fault k)) v n = (k ≡ fault.Time) × (nat_lt (v.now + n) (2 ^ 63) ≡ false)
 Reaches (Err Memory) v n = Unit {0}
 
--- a statement without calls, in a scope that sees this
-abbrev pub stmt_run : Parts → ProcessId → (next : Name) → (scope : Option Name) → View → Stmt → Form → List Todo → Effects
-stmt_run d p next scope v s f rest =
-    executed d p s f scope (record { at = s.at; view = v; scope = scope; next = next; hidden = None; rest = rest })
+-- a statement whose calls were made, in a scope that sees this; `outer` is what its branches and bodies see
+abbrev pub stmt_run : Parts → ProcessId → (next : Name) → (outer scope : Option Name) → View → Stmt → Form → List Todo → Effects
+stmt_run d p next outer scope v s f rest =
+    executed d p s f outer (record { at = s.at; view = v; scope = scope; next = next; hidden = None; rest = rest })

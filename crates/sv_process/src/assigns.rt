@@ -18,11 +18,11 @@ use crate::waits::{delay_effect, ticks_in};
 use crate::{Effect, Frame, Frames};
 use std::alloc::Global;
 use sv_arena::Name;
-use sv_assign::{spot_of, spots_of, target_value, target_values};
+use sv_assign::{Scoped, Spot, spot_of, spots_of, target_value, target_values};
 use sv_built::{Design, Position};
 use sv_eval::{Stopped, Values, value};
 use sv_flat::{Expr, Lvalue, Stmt};
-use sv_value::{NoMemory, Target, Val};
+use sv_value::{NoMemory, Val};
 
 // ---- writes
 
@@ -30,7 +30,7 @@ use sv_value::{NoMemory, Target, Val};
 #[tactic(auto, using(crate::proofs::AssignLemmas::first_written))]
 fn write_first(
     out: &mut Vec<Effect>,
-    places: &mut Vec<Target>,
+    places: &mut Vec<Spot>,
     values: &mut Vec<Val>,
 ) -> Result<(), NoMemory>
     requires places { 0 < length places.old.items }
@@ -39,15 +39,15 @@ fn write_first(
         ≡ effects_in d out.old.items ++ written (spots_in places.old.items) values.old.items) }
     ensures fewer { length places.new.items < length places.old.items }
 {
-    let target = places.remove(0);
+    let spot = places.remove(0);
     let value = values.remove(0);
-    put(out, Effect::Write { target, value })?;
+    put(out, Effect::Write { spot, value })?;
     Ok(())
 }
 
 /// Whether a place and a value are left.
 #[tactic(auto, using(crate::proofs::AssignLemmas::without_places, crate::proofs::AssignLemmas::without_values))]
-fn has_both(places: &Vec<Target>, values: &Vec<Val>) -> bool
+fn has_both(places: &Vec<Spot>, values: &Vec<Val>) -> bool
     ensures places { result ≡ true → 0 < length places.now.items }
     ensures values { result ≡ true → 0 < length values.now.items }
     ensures none { result ≡ false → written (spots_in places.now.items) values.now.items ≡ [] }
@@ -62,7 +62,7 @@ fn has_both(places: &Vec<Target>, values: &Vec<Val>) -> bool
 }
 
 /// The writes of values, from the left.
-fn write_all(out: &mut Vec<Effect>, places: Vec<Target>, values: Vec<Val>) -> Result<(), NoMemory>
+pub fn write_all(out: &mut Vec<Effect>, places: Vec<Spot>, values: Vec<Val>) -> Result<(), NoMemory>
     ensures { OnOk result ((d : Parts) → effects_in d out.new.items
         ≡ effects_in d out.old.items ++ written (spots_in places.items) values.items) }
 {
@@ -76,13 +76,13 @@ fn write_all(out: &mut Vec<Effect>, places: Vec<Target>, values: Vec<Val>) -> Re
 
 /// The writes of an assignment, and the process runs on.
 #[tactic(auto, using(crate::proofs::AssignLemmas::wrote_all))]
-fn write_values(
+pub fn write_values(
     frames: &mut Frames,
     alloc: Global,
     design: &Design,
     out: &mut Vec<Effect>,
     targets: &[Lvalue],
-    places: Vec<Target>,
+    places: Vec<Spot>,
     value: Val,
 ) -> Result<(), NoMemory>
     requires { out.old.items ≡ [] }
@@ -102,7 +102,7 @@ fn write_value(
     design: &Design,
     out: &mut Vec<Effect>,
     target: &Lvalue,
-    place: Target,
+    place: Spot,
     value: Val,
 ) -> Result<(), NoMemory>
     requires { out.old.items ≡ [] }
@@ -110,13 +110,7 @@ fn write_value(
         (writes (todos_of design.now frames.old) (target.now ∷ []) (spot_in place ∷ []) value)) }
 {
     let value = target_value(target, value)?;
-    put(
-        out,
-        Effect::Write {
-            target: place,
-            value,
-        },
-    )?;
+    put(out, Effect::Write { spot: place, value })?;
     go_on(frames, design, out)?;
     Ok(())
 }
@@ -125,7 +119,7 @@ fn write_value(
 
 /// An assignment to one target.
 #[tactic(auto, using(crate::proofs::AssignLemmas::one_place, crate::proofs::AssignLemmas::no_place, crate::proofs::AssignLemmas::computed_is, crate::proofs::AssignLemmas::computed_no_place, crate::proofs::AssignLemmas::computed_no_value))]
-fn assign_one<V: Values>(
+fn assign_one<V: Scoped>(
     frames: &mut Frames,
     alloc: Global,
     design: &Design,
@@ -148,7 +142,7 @@ fn assign_one<V: Values>(
 
 /// An assignment to any number of targets.
 #[tactic(auto, using(crate::proofs::AssignLemmas::computed_is, crate::proofs::AssignLemmas::computed_no_place, crate::proofs::AssignLemmas::computed_no_value))]
-fn assign_all<V: Values>(
+fn assign_all<V: Scoped>(
     frames: &mut Frames,
     alloc: Global,
     design: &Design,
@@ -170,7 +164,7 @@ fn assign_all<V: Values>(
 }
 
 /// An assignment.
-pub fn run_assign<V: Values>(
+pub fn run_assign<V: Scoped>(
     frames: &mut Frames,
     alloc: Global,
     design: &Design,
@@ -233,7 +227,7 @@ pub fn run_assign_after<V: Values>(
 
 /// What is left of it.
 #[tactic(auto, using(crate::proofs::AssignLemmas::put_is, crate::proofs::AssignLemmas::put_no_place))]
-pub fn run_put<V: Values>(
+pub fn run_put<V: Scoped>(
     frames: &mut Frames,
     alloc: Global,
     design: &Design,

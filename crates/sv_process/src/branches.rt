@@ -2,7 +2,7 @@
 ghost use Rattle.std.specs.Prelude.{◌≡◌, ◌++◌, [], drop, OnOk};
 ghost use Rattle.sv_value.specs.Operators as operators;
 ghost use Rattle.sv_flat.specs.Eval as eval;
-ghost use Rattle.sv_flat.specs.Process.{body_in, optional_body_in};
+ghost use Rattle.sv_flat.specs.Process.{optional_body_in};
 ghost use Rattle.sv_flat.specs.Statements.{branch};
 ghost use Rattle.sv_flat.specs.Statements.Shared.{goes_on, value_in};
 ghost use Rattle.sv_process.specs.Frames.{todos_of};
@@ -36,23 +36,6 @@ pub fn run_null(frames: &mut Frames, design: &Design, out: &mut Vec<Effect>) -> 
     ensures { OnOk result (Leaves design.now frames.new out.new.items (goes_on (drop 1 (todos_of design.now frames.old)) [])) }
 {
     frames.leave_first(design)?;
-    pass(frames, design, out)
-}
-
-/// A block that declares no variables.
-pub fn run_block(
-    frames: &mut Frames,
-    design: &Design,
-    out: &mut Vec<Effect>,
-    body: RoutineId,
-    scope: Option<Name>,
-) -> Result<(), NoMemory>
-    requires { out.old.items ≡ [] }
-    ensures { OnOk result (Leaves design.now frames.new out.new.items
-        (goes_on (body_in design.now body scope ++ drop 1 (todos_of design.now frames.old)) [])) }
-{
-    frames.leave_first(design)?;
-    frames.enter(body, scope)?;
     pass(frames, design, out)
 }
 

@@ -1,21 +1,36 @@
 // What a step of a process does beside leaving something to run.
 use sv_arena::Name;
-use sv_built::{Position, Wait};
-use sv_value::{FaultKind, Job, Target, Text, Val};
+use sv_assign::Spot;
+use sv_built::{Entered, Position, Wait};
+use sv_value::{FaultKind, Job, Text, Val};
 
 /// An effect of a step, beside what the process has still to run.
 #[derive(Drop)]
 pub enum Effect {
     /// A value is written.
-    Write { target: Target, value: Val },
+    Write {
+        spot: Spot,
+        value: Val,
+    },
+    /// An activation is made, inside another one.
+    Enter {
+        entered: Entered,
+        around: Option<Name>,
+    },
     /// The process waits for the other processes of the slot.
     Turn,
     /// The process waits for a change, as seen from a scope.
-    Watch { wait: Wait, scope: Option<Name> },
+    Watch {
+        wait: Wait,
+        scope: Option<Name>,
+    },
     /// The process waits until a moment.
     ResumeAt(u64),
     /// A job is done at a moment, now or later.
-    UpdateAt { time: u64, job: Job },
+    UpdateAt {
+        time: u64,
+        job: Job,
+    },
     /// A record.
     Print(Text),
     /// What the statement at a position prints as the slot ends.

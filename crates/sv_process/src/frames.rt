@@ -1,18 +1,22 @@
 // What a process has still to run: a stack of places in routines, each with the scope in which its statements run.
-ghost use Rattle.std.specs.Prelude.{◌≡◌, ◌∷◌, ◌<◌, [], ℕ, Option, None, drop, reverse, length, OnOk, IfOk, IfSome, IfNone};
+ghost use Rattle.std.specs.Prelude.{◌≡◌, ◌∷◌, ◌<◌, [], ℕ, Option, None, Some, drop, reverse, length, nat_le, OnOk, IfOk, IfSome, IfNone};
+ghost use Rattle.sv_value.specs.declared.place.Place.{Place};
 ghost use Rattle.sv_value.specs.declared.val.Val.{Val};
 ghost use Rattle.sv_flat.specs.declared.design.Parts.{Parts};
 ghost use Rattle.sv_flat.specs.Process.{body_in};
 ghost use Rattle.sv_flat.specs.State.{Name};
 ghost use Rattle.sv_built.specs.Positions.{stmt_at};
+ghost use Rattle.sv_flat.specs.Statements.Jumps.{open_calls};
 ghost use Rattle.sv_process.specs.declared.frames.Frame.TheVariants.{Rest};
-ghost use Rattle.sv_process.specs.Frames.{todos_in, todos_of, turn_at, turns_at, put_at, scope_in, scope_of_step, is_more, IsFirst, IsSettled};
+ghost use Rattle.sv_process.specs.Calls.{called_at, end_at, end_of_call};
+ghost use Rattle.sv_process.specs.Frames.{todos_in, todos_of, turn_at, turns_at, elements_at, put_at, scope_in, is_end, is_more, IsFirst, IsSettled};
 
+use crate::routines::{call_of, subroutine_of};
 use std::alloc::Global;
 use std::marker::Model;
 use sv_arena::Name;
 use sv_built::{Design, Position};
-use sv_flat::Form;
+use sv_flat::{Call, CallForm, Form};
 use sv_value::{NoMemory, RoutineId, Val};
 
 /// Something that a process has still to run, in a scope.
@@ -33,11 +37,35 @@ pub enum Frame {
         left: u64,
         scope: Option<Name>,
     },
+    /// The walk of the `foreach` at a position, after so many elements of a fixed array.
+    Elements {
+        at: Position,
+        next: u64,
+        scope: Option<Name>,
+    },
     /// What is left of the `a = #d e` at a position.
     Put {
         at: Position,
         value: Val,
         scope: Option<Name>,
+    },
+    /// The statement at a position, of whose calls so many were made.
+    Called {
+        at: Position,
+        made: usize,
+        /// What its branches and bodies see.
+        outer: Option<Name>,
+        /// The activation of its hidden variables, once it is made.
+        hidden: Option<Name>,
+    },
+    /// The end of a call of the statement at a position: of the one with this number before it, or of the call that it is.
+    Leave {
+        at: Position,
+        number: Option<usize>,
+        /// The activation of the call, if it has one.
+        callee: Option<Name>,
+        /// What the caller sees.
+        caller: Option<Name>,
     },
 }
 
@@ -51,10 +79,27 @@ impl Drop for Frame {
                 left: _,
                 scope: _,
             } => {}
+            Frame::Elements {
+                at: _,
+                next: _,
+                scope: _,
+            } => {}
             Frame::Put {
                 at: _,
                 value: _,
                 scope: _,
+            } => {}
+            Frame::Called {
+                at: _,
+                made: _,
+                outer: _,
+                hidden: _,
+            } => {}
+            Frame::Leave {
+                at: _,
+                number: _,
+                callee: _,
+                caller: _,
             } => {}
         }
     }
@@ -135,15 +180,6 @@ impl Frames {
         })
     }
 
-    /// The scope that what comes first sees. Where nothing is left, that is outside of all activations.
-    pub fn scope(&mut self, design: &Design) -> Option<Name>
-        ensures same { todos_of design.now self.new ≡ todos_of design.now self.old }
-        ensures scope { result ≡ scope_of_step (todos_of design.now self.new) }
-    {
-        settle(&mut self.stack, design);
-        scope_of(&self.stack, design)
-    }
-
     /// Drops the entries of which nothing is left.
     pub fn settle(&mut self, design: &Design)
         ensures { todos_of design.now self.new ≡ todos_of design.now self.old }
@@ -167,6 +203,17 @@ impl Frames {
         leave_top(&mut self.stack, design)
     }
 
+    /// Whether no other call may be opened.
+    #[tactic(auto, using(crate::proofs::DepthLemmas::few_calls))]
+    pub fn is_deep(&self, design: &Design) -> bool
+        ensures { result ≡ nat_le 1000 (open_calls (todos_of design.now self.now)) }
+    {
+        if self.stack.len() < 1000 {
+            return false;
+        }
+        1000 <= open_calls(self.stack.as_slice(), design)
+    }
+
     /// Whether something is left.
     pub fn is_more(&mut self, design: &Design) -> bool
         ensures same { todos_of design.now self.new ≡ todos_of design.now self.old }
@@ -186,13 +233,18 @@ fn is_live(frame: &Frame, design: &Design) -> bool
         Frame::Rest { at, .. } => at.place < design.body(at.routine).len(),
         Frame::Loop { at, .. } => is_stmt(design, *at),
         Frame::Turns { at, .. } => is_repeat(design, *at),
+        Frame::Elements { at, .. } => is_stmt(design, *at),
         Frame::Put { at, .. } => is_put(design, *at),
+        Frame::Called { at, .. } => is_stmt(design, *at),
+        Frame::Leave { at, number, .. } => is_call(design, *at, *number),
     }
 }
 
 /// Whether a statement stands there.
 pub fn is_stmt(design: &Design, at: Position) -> bool
-    ensures { (scope : Option Name) → result ≡ is_more (turn_at (stmt_at design.now at) scope) }
+    ensures turn { (scope : Option Name) → result ≡ is_more (turn_at (stmt_at design.now at) scope) }
+    ensures elements { (n : ℕ) (scope : Option Name) → result ≡ is_more (elements_at (stmt_at design.now at) n scope) }
+    ensures called { (n : ℕ) (outer : Option Name) (hidden : Option Name) → result ≡ is_more (called_at (stmt_at design.now at) n outer hidden) }
 {
     match design.body(at.routine).get(at.place) {
         Some(_) => true,
@@ -226,6 +278,62 @@ fn is_put(design: &Design, at: Position) -> bool
     }
 }
 
+/// Whether a call of a subroutine stands there: of this number before the statement, or the statement itself.
+fn is_call(design: &Design, at: Position, number: Option<usize>) -> bool
+    ensures { (callee : Option Name) (caller : Option Name) → result ≡ is_more (end_at design.now (stmt_at design.now at) number callee caller) }
+{
+    match design.body(at.routine).get(at.place) {
+        Some(stmt) => match call_of(stmt, number) {
+            Some(call) => calls_subroutine(design, call),
+            None => false,
+        },
+        None => false,
+    }
+}
+
+/// Whether a call is one of a subroutine.
+fn calls_subroutine(design: &Design, call: &Call) -> bool
+    ensures { (at : Place) (callee : Option Name) (caller : Option Name) → result ≡ is_more (end_of_call design.now at (Some call.now) callee caller) }
+{
+    match &call.form {
+        CallForm::Routine {
+            routine,
+            through,
+            ..
+        } => match through {
+            None => match subroutine_of(design, *routine) {
+                Some(_) => true,
+                None => false,
+            },
+            Some(_) => false,
+        },
+        _ => false,
+    }
+}
+
+/// Whether an entry is the end of a call.
+pub fn is_end(frame: &Frame, design: &Design) -> bool
+    ensures { result ≡ is_end design.now frame.now }
+{
+    match frame {
+        Frame::Leave { at, number, .. } => is_call(design, *at, *number),
+        _ => false,
+    }
+}
+
+/// How many calls are open.
+fn open_calls(stack: &[Frame], design: &Design) -> usize
+    ensures { result ≡ open_calls (todos_of design.now (reverse stack.now)) }
+{
+    let mut open = 0;
+    for frame in stack {
+        if is_end(frame, design) {
+            open += 1;
+        }
+    }
+    open
+}
+
 /// Drops the entries of which nothing is left.
 fn settle(stack: &mut Vec<Frame>, design: &Design)
     ensures same { todos_of design.now (reverse stack.new.items) ≡ todos_of design.now (reverse stack.old.items) }
@@ -256,25 +364,18 @@ pub fn scope_in(frame: &Frame) -> Option<Name>
         Frame::Rest { scope, .. } => *scope,
         Frame::Loop { scope, .. } => *scope,
         Frame::Turns { scope, .. } => *scope,
+        Frame::Elements { scope, .. } => *scope,
         Frame::Put { scope, .. } => *scope,
-    }
-}
-
-/// The scope that what comes first sees.
-#[tactic(auto, using(crate::proofs::FrameLemmas::no_scope, crate::proofs::FrameLemmas::first_scope))]
-fn scope_of(stack: &Vec<Frame>, design: &Design) -> Option<Name>
-    requires { IsSettled design.now (reverse stack.now.items) }
-    ensures { result ≡ scope_of_step (todos_of design.now (reverse stack.now.items)) }
-{
-    let _ = design;
-    match stack.last() {
-        None => None,
-        Some(frame) => scope_in(frame),
+        Frame::Called { outer, hidden, .. } => match hidden {
+            Some(name) => Some(*name),
+            None => *outer,
+        },
+        Frame::Leave { callee, .. } => *callee,
     }
 }
 
 /// Leaves what comes first. Memory is wanting where no number is left for the next place.
-#[tactic(auto, using(crate::proofs::FrameLemmas::left_rest_set, crate::proofs::FrameLemmas::left_loop, crate::proofs::FrameLemmas::left_turns, crate::proofs::FrameLemmas::left_put))]
+#[tactic(auto, using(crate::proofs::FrameLemmas::left_rest_set, crate::proofs::FrameLemmas::left_loop, crate::proofs::FrameLemmas::left_turns, crate::proofs::FrameLemmas::left_elements, crate::proofs::FrameLemmas::left_put, crate::proofs::FrameLemmas::left_called, crate::proofs::FrameLemmas::left_end))]
 fn leave_top(stack: &mut Vec<Frame>, design: &Design) -> Result<(), NoMemory>
     requires { IsSettled design.now (reverse stack.old.items) }
     ensures { OnOk result (todos_of design.now (reverse stack.new.items) ≡ drop 1 (todos_of design.now (reverse stack.old.items))) }

@@ -23,7 +23,10 @@ fn is_turn(frame: &Frame, design: &Design) -> bool
         Frame::Rest { .. } => false,
         Frame::Loop { at, .. } => is_stmt(design, *at),
         Frame::Turns { at, .. } => is_repeat(design, *at),
+        Frame::Elements { at, .. } => is_stmt(design, *at),
         Frame::Put { .. } => false,
+        Frame::Called { .. } => false,
+        Frame::Leave { .. } => false,
     }
 }
 
@@ -35,7 +38,10 @@ fn step_of(frame: &Frame, design: &Design) -> Option<RoutineId>
         Frame::Rest { .. } => None,
         Frame::Loop { at, .. } => step_of_loop(design, *at),
         Frame::Turns { .. } => None,
+        Frame::Elements { .. } => None,
         Frame::Put { .. } => None,
+        Frame::Called { .. } => None,
+        Frame::Leave { .. } => None,
     }
 }
 

@@ -13,30 +13,25 @@ use crate::ends::pass_with;
 use crate::waits::{moment_after, ticks_in};
 use crate::{Effect, Frames, Spare};
 use std::alloc::Global;
-use sv_assign::{spot_of, spots_of, target_value, target_values};
+use sv_assign::{Scoped, Spot, spot_of, spots_of, target_value, target_values};
 use sv_built::Design;
 use sv_eval::{Stopped, Values, value};
 use sv_flat::{Expr, Lvalue};
-use sv_value::{FaultKind, Job, NoMemory, Seq, Target, Update, Val};
+use sv_value::{FaultKind, Job, NoMemory, Seq, Update, Val};
 
 // ---- updates
 
-/// The update of a place comes behind the others, where it is one of an object.
-fn push_update(list: &mut Vec<Update>, place: Target, value: Val) -> Result<(), NoMemory>
+/// The update of a place comes behind the others, where it is one of an object: a variable of an activation gets none.
+fn push_update(list: &mut Vec<Update>, place: Spot, value: Val) -> Result<(), NoMemory>
     ensures { OnOk result (list.new.items ≡ list.old.items ++ updates_for (spot_in place ∷ []) (value ∷ [])) }
 {
-    match &place {
-        Target::Object(target) => {
-            list.push(Update {
-                target: *target,
-                value,
-            })?;
+    match place {
+        Spot::Cell(target) => {
+            list.push(Update { target, value })?;
             Ok(())
         }
-        Target::Local { .. } => Ok(()),
-        Target::Field { .. } => Ok(()),
-        Target::Item { .. } => Ok(()),
-        Target::Nothing => Ok(()),
+        Spot::Variable { .. } => Ok(()),
+        Spot::Nowhere => Ok(()),
     }
 }
 
@@ -44,7 +39,7 @@ fn push_update(list: &mut Vec<Update>, place: Target, value: Val) -> Result<(), 
 #[tactic(auto, using(crate::proofs::LaterLemmas::first_updated))]
 fn update_first(
     list: &mut Vec<Update>,
-    places: &mut Vec<Target>,
+    places: &mut Vec<Spot>,
     values: &mut Vec<Val>,
 ) -> Result<(), NoMemory>
     requires places { 0 < length places.old.items }
@@ -61,7 +56,7 @@ fn update_first(
 
 /// Whether a place and a value are left.
 #[tactic(auto, using(crate::proofs::LaterLemmas::without_places, crate::proofs::LaterLemmas::without_values))]
-fn has_both(places: &Vec<Target>, values: &Vec<Val>) -> bool
+fn has_both(places: &Vec<Spot>, values: &Vec<Val>) -> bool
     ensures places { result ≡ true → 0 < length places.now.items }
     ensures values { result ≡ true → 0 < length values.now.items }
     ensures none { result ≡ false → updates_for (spots_in places.now.items) values.now.items ≡ [] }
@@ -79,7 +74,7 @@ fn has_both(places: &Vec<Target>, values: &Vec<Val>) -> bool
 fn updates_of(
     alloc: Global,
     spare: &mut Spare,
-    places: Vec<Target>,
+    places: Vec<Spot>,
     values: Vec<Val>,
 ) -> Result<Vec<Update>, NoMemory>
     ensures { IfOk result (λ us. us.items ≡ updates_for (spots_in places.items) values.items) }
@@ -98,7 +93,7 @@ fn job_of(
     alloc: Global,
     spare: &mut Spare,
     targets: &[Lvalue],
-    places: Vec<Target>,
+    places: Vec<Spot>,
     value: Val,
 ) -> Result<Vec<Update>, NoMemory>
     ensures { IfOk result (λ us. us.items ≡ updates_for (spots_in places.items) (defined.target_values targets.now value)) }
@@ -112,7 +107,7 @@ fn job_of_one(
     alloc: Global,
     spare: &mut Spare,
     target: &Lvalue,
-    place: Target,
+    place: Spot,
     value: Val,
 ) -> Result<Vec<Update>, NoMemory>
     ensures { IfOk result (λ us. us.items ≡ updates_for (spot_in place ∷ []) (defined.target_values (target.now ∷ []) value)) }
@@ -137,7 +132,7 @@ fn moment_of<V: Values>(values: &V, ticks: u128) -> Result<u64, Stopped>
 
 /// A nonblocking assignment to one target, without a delay.
 #[tactic(auto, using(crate::proofs::LaterLemmas::one_place, crate::proofs::LaterLemmas::no_place, crate::proofs::LaterLemmas::computed_no_place, crate::proofs::LaterLemmas::computed_no_value, crate::proofs::LaterLemmas::computed_too_late, crate::proofs::LaterLemmas::computed_is))]
-fn update_one<V: Values>(
+fn update_one<V: Scoped>(
     frames: &mut Frames,
     alloc: Global,
     design: &Design,
@@ -171,7 +166,7 @@ fn update_one<V: Values>(
 
 /// A nonblocking assignment to any number of targets, without a delay.
 #[tactic(auto, using(crate::proofs::LaterLemmas::computed_no_place, crate::proofs::LaterLemmas::computed_no_value, crate::proofs::LaterLemmas::computed_too_late, crate::proofs::LaterLemmas::computed_is))]
-fn update_all<V: Values>(
+fn update_all<V: Scoped>(
     frames: &mut Frames,
     alloc: Global,
     design: &Design,
@@ -204,7 +199,7 @@ fn update_all<V: Values>(
 }
 
 /// A nonblocking assignment without a delay.
-pub fn run_nonblocking<V: Values>(
+pub fn run_nonblocking<V: Scoped>(
     frames: &mut Frames,
     alloc: Global,
     design: &Design,
@@ -227,7 +222,7 @@ pub fn run_nonblocking<V: Values>(
 
 /// A nonblocking assignment after a delay.
 #[tactic(auto, using(crate::proofs::LaterLemmas::delayed_no_amount, crate::proofs::LaterLemmas::delayed_no_value, crate::proofs::LaterLemmas::delayed_no_place, crate::proofs::LaterLemmas::delayed_too_late))]
-pub fn run_nonblocking_after<V: Values>(
+pub fn run_nonblocking_after<V: Scoped>(
     frames: &mut Frames,
     alloc: Global,
     design: &Design,

@@ -1,39 +1,35 @@
 // The next step of a process (IEEE 1800-2017, 4.4.2 and 9.2).
-ghost use Rattle.std.specs.Prelude.{◌≡◌, ◌∷◌, [], List, Option, None, Some, drop, unwrap_or, IfOk, IfSome, OnOk};
-ghost use Rattle.sv_flat.specs.declared.design.Parts.{Parts};
-ghost use Rattle.sv_flat.specs.Statements.Shared.{Effects};
-ghost use Rattle.sv_process.specs.declared.frames.Frame.{Frame as Entry};
+ghost use Rattle.std.specs.Prelude.{◌≡◌, ◌∷◌, [], Option, None, Some, true, unwrap_or, IfOk, IfSome, OnOk};
+ghost use Rattle.sv_flat.specs.declared.call.CallForm.TheVariants as form;
 ghost use Rattle.sv_process.specs.declared.went.Went.TheVariants.{Held, On};
 ghost use Rattle.sv_value.specs.declared.number.ProcessId.{ProcessId};
 ghost use Rattle.sv_value.specs.declared.val.Message.{Message};
-ghost use Rattle.sv_flat.specs.Micro.{Looks, micro, run_first, place_of_step};
-ghost use Rattle.sv_flat.specs.Process.{ProcessState, Do, no_place};
-ghost use Rattle.sv_flat.specs.State.{Name};
-ghost use Rattle.sv_built.specs.Built.{IsBuilt, IsBuiltForm};
+ghost use Rattle.sv_flat.specs.Micro.{Looks, run_first, place_of_step};
+ghost use Rattle.sv_flat.specs.Process.{no_place};
+ghost use Rattle.sv_assign.specs.Seen.{view_in};
+ghost use Rattle.sv_built.specs.Built.{IsBuilt};
 ghost use Rattle.sv_built.specs.Positions.{stmt_at};
 ghost use Rattle.sv_process.specs.declared.frames.Frame.TheVariants as frame;
 ghost use Rattle.sv_process.specs.declared.effect.Effect.TheVariants.{End};
-ghost use Rattle.sv_process.specs.Frames.{todos_of, IsFirst, Sees};
-ghost use Rattle.sv_process.specs.Effects.{Does, IsKept, effects_of};
-ghost use Rattle.sv_process.specs.Parts.{stmt_run};
+ghost use Rattle.sv_process.specs.Calls.{call_in};
+ghost use Rattle.sv_process.specs.Frames.{todos_of, IsFirst, SeesAll};
+ghost use Rattle.sv_process.specs.Effects.{effects_of, is_held};
 
-use crate::assigns::{run_assign, run_assign_after, run_put};
-use crate::branches::{run_block, run_if, run_null};
-use crate::cases::run_case;
+use crate::assigns::run_put;
+use crate::elements::run_elements;
 use crate::ends::put;
-use crate::jumps::{run_break, run_continue};
-use crate::later::{run_nonblocking, run_nonblocking_after};
-use crate::loops::{run_do, run_forever, run_repeat, run_turns, run_while};
-use crate::others::{run_evaluate, run_finish};
-use crate::prints::{run_print, run_strobe};
-use crate::waits::{run_at, run_delay, run_wait};
+use crate::leaves::run_leave;
+use crate::loops::run_turns;
+use crate::routines::{call_of, subroutine_of};
+use crate::statement::run_stmt;
+use crate::went::went_of;
 use crate::{Effect, Frame, Frames, Spare, Went};
 use std::alloc::Global;
 use sv_arena::Name;
+use sv_assign::{Scoped, Seen};
 use sv_built::{Design, Position};
-use sv_eval::{Stopped, Values};
-use sv_flat::{Form, PrintKind, Stmt};
-use sv_value::{NoMemory, Place, Val};
+use sv_flat::{Argument, Call, CallForm, Form, Stmt};
+use sv_value::{NoMemory, Place, RoutineId, Val};
 
 /// A place in no source.
 const NOWHERE: Place = Place {
@@ -58,276 +54,35 @@ fn stmt_of<'a>(design: &'a Design, at: Position) -> Option<&'a Stmt>
     design.body(at.routine).get(at.place)
 }
 
-/// The statement that comes first. Memory is wanting for forms that are not run.
-#[tactic(auto, using(crate::proofs::StepLemmas::by_form))]
-fn run_form<V: Values>(
-    frames: &mut Frames,
-    alloc: Global,
-    design: &Design,
-    values: &V,
-    out: &mut Vec<Effect>,
-    spare: &mut Spare,
-    at: Position,
-    stmt: &Stmt,
-    scope: Option<Name>,
-) -> Result<(), Stopped>
-    requires first { out.old.items ≡ [] }
-    requires at { stmt_at design.now at ≡ Some stmt.now }
-    requires built { IsBuiltForm stmt.now.form }
-    requires comes { todos_of design.now frames.old ≡ Do stmt.now [] scope None ∷ drop 1 (todos_of design.now frames.old) }
-    ensures does { (p : ProcessId) (next : Name) → Does design.now result frames.new out.new.items
-        (stmt_run design.now p next scope (V.view values.now) stmt.now stmt.now.form (drop 1 (todos_of design.now frames.old))) }
-    ensures kept { IsKept result frames.old frames.new }
-{
-    match &stmt.form {
-        Form::Null => {
-            run_null(frames, design, out)?;
-            Ok(())
-        }
-        Form::Block { body, .. } => {
-            run_block(frames, design, out, *body, scope)?;
-            Ok(())
-        }
-        Form::If { condition, yes, no } => run_if(
-            frames, alloc, design, values, out, condition, *yes, *no, scope,
-        ),
-        Form::Assign { targets, value } => {
-            run_assign(
-                frames,
-                alloc,
-                design,
-                values,
-                out,
-                targets.as_slice(),
-                value,
-            )
-        }
-        Form::AssignAfter {
-            targets,
-            value,
-            delay,
-            in_ticks,
-        } => run_assign_after(
-            frames,
-            alloc,
-            design,
-            values,
-            out,
-            at,
-            stmt,
-            targets.as_slice(),
-            value,
-            delay,
-            *in_ticks,
-            scope,
-        ),
-        Form::Nonblocking {
-            targets,
-            value,
-            delay,
-            in_ticks,
-        } => match delay {
-            None => run_nonblocking(
-                frames,
-                alloc,
-                design,
-                values,
-                out,
-                spare,
-                targets.as_slice(),
-                value,
-            ),
-            Some(delay) => run_nonblocking_after(
-                frames,
-                alloc,
-                design,
-                values,
-                out,
-                spare,
-                targets.as_slice(),
-                value,
-                delay,
-                *in_ticks,
-            ),
-        },
-        Form::Case {
-            kind,
-            subject,
-            items,
-            default,
-        } => run_case(
-            frames,
-            alloc,
-            design,
-            values,
-            out,
-            *kind,
-            subject,
-            items.as_slice(),
-            *default,
-            scope,
-        ),
-        Form::While {
-            condition,
-            body,
-            step,
-        } => run_while(
-            frames, alloc, design, values, out, at, stmt, condition, *body, *step, scope,
-        ),
-        Form::Do { again } => {
-            run_do(frames, design, out, *again, scope)?;
-            Ok(())
-        }
-        Form::Repeat { count, body } => run_repeat(
-            frames, alloc, design, values, out, at, stmt, count, *body, scope,
-        ),
-        Form::Forever { body } => {
-            run_forever(frames, design, out, at, stmt, *body, scope)?;
-            Ok(())
-        }
-        Form::Break => {
-            run_break(frames, design, out)?;
-            Ok(())
-        }
-        Form::Continue => {
-            run_continue(frames, design, out)?;
-            Ok(())
-        }
-        Form::Evaluate { value } => run_evaluate(frames, alloc, design, values, out, value),
-        Form::Delay { amount, in_ticks } => {
-            run_delay(frames, alloc, design, values, out, amount, *in_ticks)
-        }
-        Form::At { watches } => {
-            run_at(
-                frames,
-                design,
-                values,
-                out,
-                at,
-                stmt,
-                watches.as_slice(),
-                scope,
-            )?;
-            Ok(())
-        }
-        Form::Wait { condition } => {
-            run_wait(
-                frames, alloc, design, values, out, at, stmt, condition, scope,
-            )
-        }
-        Form::Print {
-            kind,
-            pieces,
-            values: exprs,
-        } => match kind {
-            PrintKind::Now => run_print(
-                frames,
-                alloc,
-                design,
-                values,
-                out,
-                pieces.as_slice(),
-                exprs.as_slice(),
-            ),
-            PrintKind::Strobe => {
-                run_strobe(
-                    frames,
-                    design,
-                    out,
-                    at,
-                    stmt,
-                    pieces.as_slice(),
-                    exprs.as_slice(),
-                )?;
-                Ok(())
-            }
-            PrintKind::Monitor => Err(Stopped::Memory),
-        },
-        Form::Finish => {
-            run_finish(frames, design, out)?;
-            Ok(())
-        }
-        _ => Err(Stopped::Memory),
-    }
-}
-
-/// The next test of a loop, which was entered.
-fn run_loop<V: Values>(
-    frames: &mut Frames,
-    alloc: Global,
-    design: &Design,
-    values: &V,
-    out: &mut Vec<Effect>,
-    at: Position,
-    stmt: &Stmt,
-    scope: Option<Name>,
-) -> Result<(), Stopped>
-    requires first { out.old.items ≡ [] }
-    requires at { stmt_at design.now at ≡ Some stmt.now }
-    ensures does { (p : ProcessId) (next : Name) → Does design.now result frames.new out.new.items
-        (stmt_run design.now p next scope (V.view values.now) stmt.now stmt.now.form (drop 1 (todos_of design.now frames.old))) }
-    ensures kept { IsKept result frames.old frames.new }
-{
-    match &stmt.form {
-        Form::While {
-            condition,
-            body,
-            step,
-        } => run_while(
-            frames, alloc, design, values, out, at, stmt, condition, *body, *step, scope,
-        ),
-        Form::Forever { body } => {
-            run_forever(frames, design, out, at, stmt, *body, scope)?;
-            Ok(())
-        }
-        _ => Err(Stopped::Memory),
-    }
-}
-
-/// What came of it; a fault is the only effect of the step that meets it.
-fn went_of(out: &mut Vec<Effect>, ran: Result<(), Stopped>) -> Result<Went, NoMemory>
-    ensures does { IfOk result (λ w. (d : Parts) (fs : List Entry) (all : Effects)
-        → Does d ran fs out.old.items all → all ≡ effects_of d w fs out.new.items) }
-    ensures kept { IfOk result (λ w. (old : List Entry) (new : List Entry) → IsKept ran old new → w ≡ Held → new ≡ old) }
-{
-    match ran {
-        Ok(_) => Ok(Went::On),
-        Err(Stopped::Fault(kind)) => {
-            out.clear();
-            put(out, Effect::Fail(kind))?;
-            Ok(Went::Held)
-        }
-        Err(Stopped::Memory) => Err(NoMemory::Memory),
-    }
-}
-
 // ---- what comes first
 
-/// The step that runs the statement at a position.
-fn step_stmt<V: Values>(
+/// The step that runs the statement at a position, or the first of the calls before it.
+fn step_stmt(
     frames: &mut Frames,
     alloc: Global,
     design: &Design,
-    values: &V,
+    seen: &Seen,
     out: &mut Vec<Effect>,
     spare: &mut Spare,
     at: Position,
     scope: Option<Name>,
+    next: Name,
     stepped: &mut Stepped,
 ) -> Result<(), NoMemory>
     requires empty { out.old.items ≡ [] }
     requires built { IsBuilt design.now }
     requires comes { IsFirst design.now (frame.Rest at scope) (todos_of design.now frames.old) }
-    ensures does { OnOk result ((look : Looks) (p : ProcessId) (next : Name) (handed : Option Message)
-        → Sees design.now look frames.old (V.view values.now)
+    ensures does { OnOk result ((look : Looks) (p : ProcessId) (handed : Option Message)
+        → SeesAll look (view_in seen.now.store.now seen.now.activations.now.activations seen.now.time seen.now.unit)
         → run_first design.now look p next handed (todos_of design.now frames.old) ≡ effects_of design.now stepped.new.went frames.new out.new.items) }
     ensures at { OnOk result (stepped.new.at ≡ unwrap_or (place_of_step (todos_of design.now frames.old)) no_place) }
-    ensures held { OnOk result (stepped.new.went ≡ Held → frames.new ≡ frames.old) }
+    ensures held { OnOk result (is_held stepped.new.went ≡ true → frames.new ≡ frames.old) }
 {
     match stmt_of(design, at) {
         Some(stmt) => {
-            let ran = run_form(frames, alloc, design, values, out, spare, at, stmt, scope);
-            let went = went_of(out, ran)?;
+            let went = run_stmt(
+                frames, alloc, design, seen, out, spare, at, stmt, 0, scope, None, next,
+            )?;
             *stepped = Stepped { went, at: stmt.at };
             Ok(())
         }
@@ -335,30 +90,69 @@ fn step_stmt<V: Values>(
     }
 }
 
-/// The step that makes the next test of the loop at a position.
-fn step_loop<V: Values>(
+/// The step that makes the next test of the loop at a position, or the first of the calls before it.
+fn step_loop(
     frames: &mut Frames,
     alloc: Global,
     design: &Design,
-    values: &V,
+    seen: &Seen,
     out: &mut Vec<Effect>,
+    spare: &mut Spare,
     at: Position,
     scope: Option<Name>,
+    next: Name,
     stepped: &mut Stepped,
 ) -> Result<(), NoMemory>
     requires empty { out.old.items ≡ [] }
     requires built { IsBuilt design.now }
     requires comes { IsFirst design.now (frame.Loop at scope) (todos_of design.now frames.old) }
-    ensures does { OnOk result ((look : Looks) (p : ProcessId) (next : Name) (handed : Option Message)
-        → Sees design.now look frames.old (V.view values.now)
+    ensures does { OnOk result ((look : Looks) (p : ProcessId) (handed : Option Message)
+        → SeesAll look (view_in seen.now.store.now seen.now.activations.now.activations seen.now.time seen.now.unit)
         → run_first design.now look p next handed (todos_of design.now frames.old) ≡ effects_of design.now stepped.new.went frames.new out.new.items) }
     ensures at { OnOk result (stepped.new.at ≡ unwrap_or (place_of_step (todos_of design.now frames.old)) no_place) }
-    ensures held { OnOk result (stepped.new.went ≡ Held → frames.new ≡ frames.old) }
+    ensures held { OnOk result (is_held stepped.new.went ≡ true → frames.new ≡ frames.old) }
 {
     match stmt_of(design, at) {
         Some(stmt) => {
-            let ran = run_loop(frames, alloc, design, values, out, at, stmt, scope);
-            let went = went_of(out, ran)?;
+            let went = run_stmt(
+                frames, alloc, design, seen, out, spare, at, stmt, 0, scope, None, next,
+            )?;
+            *stepped = Stepped { went, at: stmt.at };
+            Ok(())
+        }
+        None => Err(NoMemory::Memory),
+    }
+}
+
+/// The step that runs the statement at a position of whose calls so many were made, or the next of them.
+fn step_called(
+    frames: &mut Frames,
+    alloc: Global,
+    design: &Design,
+    seen: &Seen,
+    out: &mut Vec<Effect>,
+    spare: &mut Spare,
+    at: Position,
+    made: usize,
+    outer: Option<Name>,
+    hidden: Option<Name>,
+    next: Name,
+    stepped: &mut Stepped,
+) -> Result<(), NoMemory>
+    requires empty { out.old.items ≡ [] }
+    requires built { IsBuilt design.now }
+    requires comes { IsFirst design.now (frame.Called at made outer hidden) (todos_of design.now frames.old) }
+    ensures does { OnOk result ((look : Looks) (p : ProcessId) (handed : Option Message)
+        → SeesAll look (view_in seen.now.store.now seen.now.activations.now.activations seen.now.time seen.now.unit)
+        → run_first design.now look p next handed (todos_of design.now frames.old) ≡ effects_of design.now stepped.new.went frames.new out.new.items) }
+    ensures at { OnOk result (stepped.new.at ≡ unwrap_or (place_of_step (todos_of design.now frames.old)) no_place) }
+    ensures held { OnOk result (is_held stepped.new.went ≡ true → frames.new ≡ frames.old) }
+{
+    match stmt_of(design, at) {
+        Some(stmt) => {
+            let went = run_stmt(
+                frames, alloc, design, seen, out, spare, at, stmt, made, outer, hidden, next,
+            )?;
             *stepped = Stepped { went, at: stmt.at };
             Ok(())
         }
@@ -399,8 +193,43 @@ fn step_turns(
     }
 }
 
-/// The step that does what is left of the `a = #d e` at a position.
-fn step_put<V: Values>(
+/// The step that takes the next element in the walk of the `foreach` at a position. Memory is wanting where no such `foreach` stands there.
+fn step_elements(
+    frames: &mut Frames,
+    design: &Design,
+    out: &mut Vec<Effect>,
+    at: Position,
+    walked: u64,
+    scope: Option<Name>,
+    next: Name,
+    stepped: &mut Stepped,
+) -> Result<(), NoMemory>
+    requires empty { out.old.items ≡ [] }
+    requires comes { IsFirst design.now (frame.Elements at walked scope) (todos_of design.now frames.old) }
+    ensures does { OnOk result ((look : Looks) (p : ProcessId) (handed : Option Message)
+        → run_first design.now look p next handed (todos_of design.now frames.old) ≡ effects_of design.now stepped.new.went frames.new out.new.items) }
+    ensures at { OnOk result (stepped.new.at ≡ unwrap_or (place_of_step (todos_of design.now frames.old)) no_place) }
+    ensures on { OnOk result (stepped.new.went ≡ On) }
+{
+    match stmt_of(design, at) {
+        Some(stmt) => match &stmt.form {
+            Form::ForeachElement { bounds, body } => {
+                let name = scope.unwrap_or(next);
+                run_elements(frames, design, out, at, stmt, *bounds, *body, walked, name)?;
+                *stepped = Stepped {
+                    went: Went::On,
+                    at: stmt.at,
+                };
+                Ok(())
+            }
+            _ => Err(NoMemory::Memory),
+        },
+        None => Err(NoMemory::Memory),
+    }
+}
+
+/// The step that does what is left of the `a = #d e` at a position, as its scope sees it.
+fn step_put<V: Scoped>(
     frames: &mut Frames,
     alloc: Global,
     design: &Design,
@@ -412,13 +241,11 @@ fn step_put<V: Values>(
     stepped: &mut Stepped,
 ) -> Result<(), NoMemory>
     requires empty { out.old.items ≡ [] }
-    requires built { IsBuilt design.now }
     requires comes { IsFirst design.now (frame.Put at value scope) (todos_of design.now frames.old) }
-    ensures does { OnOk result ((look : Looks) (p : ProcessId) (next : Name) (handed : Option Message)
-        → Sees design.now look frames.old (V.view values.now)
+    ensures does { OnOk result ((look : Looks) (p : ProcessId) (next : Name) (handed : Option Message) → look scope ≡ V.view values.now
         → run_first design.now look p next handed (todos_of design.now frames.old) ≡ effects_of design.now stepped.new.went frames.new out.new.items) }
     ensures at { OnOk result (stepped.new.at ≡ unwrap_or (place_of_step (todos_of design.now frames.old)) no_place) }
-    ensures held { OnOk result (stepped.new.went ≡ Held → frames.new ≡ frames.old) }
+    ensures held { OnOk result (is_held stepped.new.went ≡ true → frames.new ≡ frames.old) }
 {
     match stmt_of(design, at) {
         Some(stmt) => match &stmt.form {
@@ -433,6 +260,122 @@ fn step_put<V: Values>(
         },
         None => Err(NoMemory::Memory),
     }
+}
+
+/// The end of a call, as its activation and as its caller see it.
+fn end_call<V: Scoped, W: Scoped>(
+    frames: &mut Frames,
+    alloc: Global,
+    design: &Design,
+    inner: &V,
+    outer: &W,
+    out: &mut Vec<Effect>,
+    at: Position,
+    number: Option<usize>,
+    stmt: &Stmt,
+    call: &Call,
+    routine: RoutineId,
+    arguments: &[Argument],
+    callee: Option<Name>,
+    caller: Option<Name>,
+) -> Result<Went, NoMemory>
+    requires empty { out.old.items ≡ [] }
+    requires at { stmt_at design.now at ≡ Some stmt.now }
+    requires number { call_in stmt.now number ≡ Some call.now }
+    requires is { call.now.form ≡ form.Routine routine None arguments.now }
+    requires comes { IsFirst design.now (frame.Leave at number callee caller) (todos_of design.now frames.old) }
+    ensures does { IfOk result (λ w. (look : Looks) (p : ProcessId) (next : Name) (handed : Option Message)
+        → look callee ≡ V.view inner.now → look caller ≡ W.view outer.now
+        → run_first design.now look p next handed (todos_of design.now frames.old) ≡ effects_of design.now w frames.new out.new.items) }
+    ensures at { IfOk result (λ _. stmt.now.at ≡ unwrap_or (place_of_step (todos_of design.now frames.old)) no_place) }
+    ensures held { IfOk result (λ w. is_held w ≡ true → frames.new ≡ frames.old) }
+{
+    let _ = stmt;
+    let Some(subroutine) = subroutine_of(design, routine) else {
+        return Err(NoMemory::Memory);
+    };
+    let ran = run_leave(
+        frames,
+        alloc,
+        design,
+        inner,
+        outer,
+        out,
+        subroutine,
+        arguments,
+        call.result,
+        callee,
+        caller,
+    );
+    let went = went_of(out, ran)?;
+    Ok(went)
+}
+
+/// The step that ends a call of the statement at a position.
+fn step_leave(
+    frames: &mut Frames,
+    alloc: Global,
+    design: &Design,
+    seen: &Seen,
+    out: &mut Vec<Effect>,
+    at: Position,
+    number: Option<usize>,
+    callee: Option<Name>,
+    caller: Option<Name>,
+    stepped: &mut Stepped,
+) -> Result<(), NoMemory>
+    requires empty { out.old.items ≡ [] }
+    requires comes { IsFirst design.now (frame.Leave at number callee caller) (todos_of design.now frames.old) }
+    ensures does { OnOk result ((look : Looks) (p : ProcessId) (next : Name) (handed : Option Message)
+        → SeesAll look (view_in seen.now.store.now seen.now.activations.now.activations seen.now.time seen.now.unit)
+        → run_first design.now look p next handed (todos_of design.now frames.old) ≡ effects_of design.now stepped.new.went frames.new out.new.items) }
+    ensures at { OnOk result (stepped.new.at ≡ unwrap_or (place_of_step (todos_of design.now frames.old)) no_place) }
+    ensures held { OnOk result (is_held stepped.new.went ≡ true → frames.new ≡ frames.old) }
+{
+    let Some(stmt) = stmt_of(design, at) else {
+        return Err(NoMemory::Memory);
+    };
+    let Some(call) = call_of(stmt, number) else {
+        return Err(NoMemory::Memory);
+    };
+    let CallForm::Routine {
+        routine,
+        through,
+        arguments,
+    } = &call.form
+    else {
+        return Err(NoMemory::Memory);
+    };
+    let None = through else {
+        return Err(NoMemory::Memory);
+    };
+    let (of_callee, of_caller) = (callee, caller);
+    let inner = Seen {
+        scope: of_callee,
+        ..*seen
+    };
+    let outer = Seen {
+        scope: of_caller,
+        ..*seen
+    };
+    let went = end_call(
+        frames,
+        alloc,
+        design,
+        &inner,
+        &outer,
+        out,
+        at,
+        number,
+        stmt,
+        call,
+        *routine,
+        arguments.as_slice(),
+        callee,
+        caller,
+    )?;
+    *stepped = Stepped { went, at: stmt.at };
+    Ok(())
 }
 
 // ---- the step
@@ -451,24 +394,27 @@ fn step_over(out: &mut Vec<Effect>, stepped: &mut Stepped) -> Result<(), NoMemor
     Ok(())
 }
 
-/// The next step of a process: what it does, in order, and what it leaves to run.
+/// The next step of a process: what it does, in order, and what it leaves to run. It sees what `seen` has, from the scope of what comes
+/// first. The next activation that is made gets the name `next`, and the one after it the name that follows.
 ///
 /// After an error nothing is said. Memory is wanting, too, for forms that are not run.
-pub fn step<V: Values>(
+pub fn step(
     frames: &mut Frames,
     alloc: Global,
     design: &Design,
-    values: &V,
+    seen: &Seen,
     out: &mut Vec<Effect>,
     spare: &mut Spare,
+    next: Name,
     stepped: &mut Stepped,
 ) -> Result<(), NoMemory>
     requires built { IsBuilt design.now }
     requires empty { out.old.items ≡ [] }
-    ensures does { OnOk result ((look : Looks) (p : ProcessId) (q : ProcessState) → Sees design.now look frames.old (V.view values.now)
-        → q.rest ≡ todos_of design.now frames.old → micro design.now look p q ≡ effects_of design.now stepped.new.went frames.new out.new.items) }
+    ensures does { OnOk result ((look : Looks) (p : ProcessId) (handed : Option Message)
+        → SeesAll look (view_in seen.now.store.now seen.now.activations.now.activations seen.now.time seen.now.unit)
+        → run_first design.now look p next handed (todos_of design.now frames.old) ≡ effects_of design.now stepped.new.went frames.new out.new.items) }
     ensures at { OnOk result (stepped.new.at ≡ unwrap_or (place_of_step (todos_of design.now frames.old)) no_place) }
-    ensures held { OnOk result (stepped.new.went ≡ Held → todos_of design.now frames.new ≡ todos_of design.now frames.old) }
+    ensures held { OnOk result (is_held stepped.new.went ≡ true → todos_of design.now frames.new ≡ todos_of design.now frames.old) }
 {
     frames.settle(design);
     match frames.first() {
@@ -476,22 +422,65 @@ pub fn step<V: Values>(
         Some(Frame::Rest { at, scope }) => {
             let (at, scope) = (*at, *scope);
             step_stmt(
-                frames, alloc, design, values, out, spare, at, scope, stepped,
+                frames, alloc, design, seen, out, spare, at, scope, next, stepped,
             )
         }
         Some(Frame::Loop { at, scope }) => {
             let (at, scope) = (*at, *scope);
-            step_loop(frames, alloc, design, values, out, at, scope, stepped)
+            step_loop(
+                frames, alloc, design, seen, out, spare, at, scope, next, stepped,
+            )
         }
         Some(Frame::Turns { at, left, scope }) => {
             let (at, left, scope) = (*at, *left, *scope);
             step_turns(frames, design, out, at, left, scope, stepped)
         }
+        Some(
+            Frame::Elements {
+                at,
+                next: walked,
+                scope,
+            },
+        ) => {
+            let (at, walked, scope) = (*at, *walked, *scope);
+            step_elements(frames, design, out, at, walked, scope, next, stepped)
+        }
         Some(Frame::Put { at, value, scope }) => {
             let (at, scope) = (*at, *scope);
             let value = value.copy(alloc)?;
+            let of_values = scope;
+            let values = Seen {
+                scope: of_values,
+                ..*seen
+            };
             step_put(
-                frames, alloc, design, values, out, at, value, scope, stepped,
+                frames, alloc, design, &values, out, at, value, scope, stepped,
+            )
+        }
+        Some(
+            Frame::Called {
+                at,
+                made,
+                outer,
+                hidden,
+            },
+        ) => {
+            let (at, made, outer, hidden) = (*at, *made, *outer, *hidden);
+            step_called(
+                frames, alloc, design, seen, out, spare, at, made, outer, hidden, next, stepped,
+            )
+        }
+        Some(
+            Frame::Leave {
+                at,
+                number,
+                callee,
+                caller,
+            },
+        ) => {
+            let (at, number, callee, caller) = (*at, *number, *callee, *caller);
+            step_leave(
+                frames, alloc, design, seen, out, at, number, callee, caller, stepped,
             )
         }
     }

@@ -11,14 +11,14 @@ ghost use Rattle.sv_flat.specs.Process.{Suspend, Watches, Do};
 ghost use Rattle.sv_flat.specs.Statements.Delays as delays;
 ghost use Rattle.sv_flat.specs.Statements.Events.{frozen, frozen_watches};
 ghost use Rattle.sv_flat.specs.Statements.Shared.{goes_on, waits, value_in};
-ghost use Rattle.sv_built.specs.Built.{IsBuiltExpr, IsBuiltWatch};
+ghost use Rattle.sv_built.specs.Built.{IsStaticExpr, IsBuiltWatch};
 ghost use Rattle.sv_built.specs.Positions.{stmt_at};
 ghost use Rattle.sv_process.specs.Frames.{todos_of};
 ghost use Rattle.sv_process.specs.Effects.{Leaves, Does, IsKept, effect_in};
 
 use crate::branches::is_true;
 use crate::ends::{pass, wait_with};
-use crate::{Effect, Frames};
+use crate::{Effect, Frame, Frames};
 use std::alloc::Global;
 use sv_arena::Name;
 use sv_built::{Design, Position, Wait};
@@ -124,8 +124,8 @@ pub fn run_at<V: Values>(
     Ok(())
 }
 
-/// A `wait`.
-#[tactic(auto, using(crate::proofs::WaitLemmas::holds, crate::proofs::WaitLemmas::waits_on))]
+/// A `wait`, whose calls were made.
+#[tactic(auto, using(crate::proofs::WaitLemmas::holds))]
 pub fn run_wait<V: Values>(
     frames: &mut Frames,
     alloc: Global,
@@ -135,26 +135,31 @@ pub fn run_wait<V: Values>(
     at: Position,
     stmt: &Stmt,
     condition: &Expr,
+    outer: Option<Name>,
     scope: Option<Name>,
 ) -> Result<(), Stopped>
     requires first { out.old.items ≡ [] }
     requires at { stmt_at design.now at ≡ Some stmt.now }
     requires is { stmt.now.form ≡ form.Wait condition.now }
-    requires built { IsBuiltExpr condition.now }
-    requires comes { todos_of design.now frames.old ≡ Do stmt.now [] scope None ∷ drop 1 (todos_of design.now frames.old) }
+    requires built { IsStaticExpr condition.now }
     ensures does { Does design.now result frames.new out.new.items (value_in condition.now (V.view values.now) (λ x.
         if operators.is_true (eval.vector_in x) then goes_on (drop 1 (todos_of design.now frames.old)) []
-        else waits (Do stmt.now [] scope None ∷ drop 1 (todos_of design.now frames.old))
+        else waits (Do stmt.now [] outer None ∷ drop 1 (todos_of design.now frames.old))
         (Suspend (Watches (On (frozen condition.now (V.view values.now)) Change None ∷ []) scope) ∷ []))) }
     ensures kept { IsKept result frames.old frames.new }
 {
-    let _ = stmt;
     let x = value(alloc, values, condition)?;
+    frames.leave_first(design)?;
     if is_true(&x) {
-        frames.leave_first(design)?;
         pass(frames, design, out)?;
         return Ok(());
     }
+    frames.push(Frame::Called {
+        at,
+        made: stmt.calls.as_slice().len(),
+        outer,
+        hidden: None,
+    })?;
     let wait = Wait::Condition(at);
     wait_with(frames, design, out, Effect::Watch { wait, scope })?;
     Ok(())

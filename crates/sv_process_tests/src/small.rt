@@ -2,8 +2,8 @@
 use std::alloc::{AllocError, Global};
 use sv_built::{Design, is_built};
 use sv_flat::{
-    Base, DataType, Edge, Expr, ExprForm, Form, Home, Lvalue, Object, ObjectKind, Parts, PrintKind,
-    Process, ProcessKind, Routine, Scale, Stmt, Watch,
+    Base, Bounds, DataType, Declared, Edge, Expr, ExprForm, Form, Home, Lvalue, Object, ObjectKind,
+    Parts, PrintKind, Process, ProcessKind, Routine, Scale, Stmt, Watch,
 };
 use sv_value::{
     BinOp, Bits, FormatField, Integral, NoMemory, ObjId, Pad, Piece, Place, Plain, Radix,
@@ -67,7 +67,22 @@ pub enum Item {
     /// The values with a blank between them.
     Show(PrintKind, &'static [Variable]),
     Delay(u64),
-    Block(u64),
+    /// A block with so many variables of type `int`.
+    Block(u32, u64),
+    /// A walk over an array with these bounds.
+    Foreach {
+        left: i64,
+        right: i64,
+        body: u64,
+    },
+    /// A variable of the activation that is so many levels further out gets a number.
+    SetLocal {
+        up: u32,
+        place: u32,
+        number: u64,
+    },
+    /// Such a variable as a number, and a blank.
+    ShowLocal(u32, u32),
     Set(Variable, Source),
     SetLater(Variable, Source),
     /// The branches are routines by number.
@@ -80,6 +95,7 @@ pub enum Item {
     /// So many turns of a routine.
     Repeat(u64, u64),
     Break,
+    Continue,
     Posedge(Variable),
     Finish,
 }
@@ -90,10 +106,19 @@ fn form_of(alloc: Global, item: &Item) -> Result<Form, NoMemory> {
         Item::Text(text) => print_of(alloc, text),
         Item::Show(kind, variables) => show_of(alloc, *kind, variables),
         Item::Delay(amount) => delay_of(alloc, *amount),
-        Item::Block(body) => Ok(Form::Block {
-            locals: Seq::new(alloc),
+        Item::Block(count, body) => block_of(alloc, *count, *body),
+        Item::Foreach { left, right, body } => Ok(Form::ForeachElement {
+            bounds: Bounds {
+                left: *left,
+                right: *right,
+            },
             body: RoutineId(*body),
         }),
+        Item::SetLocal { up, place, number } => Ok(Form::Assign {
+            targets: local_targets(alloc, *up, *place)?,
+            value: source_of(alloc, Source::Number(*number))?,
+        }),
+        Item::ShowLocal(up, place) => show_local(alloc, *up, *place),
         Item::Set(target, source) => Ok(Form::Assign {
             targets: targets_of(alloc, *target)?,
             value: source_of(alloc, *source)?,
@@ -117,6 +142,7 @@ fn form_of(alloc: Global, item: &Item) -> Result<Form, NoMemory> {
             body: RoutineId(*body),
         }),
         Item::Break => Ok(Form::Break),
+        Item::Continue => Ok(Form::Continue),
         Item::Posedge(variable) => posedge_of(alloc, *variable),
         Item::Finish => Ok(Form::Finish),
     }
@@ -161,6 +187,50 @@ fn targets_of(alloc: Global, variable: Variable) -> Result<Seq<Lvalue>, NoMemory
         ty: variable.ty(),
     })?;
     Ok(targets)
+}
+
+fn block_of(alloc: Global, count: u32, body: u64) -> Result<Form, NoMemory> {
+    let mut locals = Seq::new(alloc);
+    for _ in 0..count {
+        locals.push(Declared {
+            at: HERE,
+            ty: Variable::A.ty(),
+        })?;
+    }
+    Ok(Form::Block {
+        locals,
+        body: RoutineId(body),
+    })
+}
+
+fn local_targets(alloc: Global, up: u32, place: u32) -> Result<Seq<Lvalue>, NoMemory> {
+    let mut targets = Seq::new(alloc);
+    targets.push(Lvalue {
+        at: HERE,
+        through: None,
+        base: Base::Local { up, place },
+        part: None,
+        ty: Variable::A.ty(),
+    })?;
+    Ok(targets)
+}
+
+fn show_local(alloc: Global, up: u32, place: u32) -> Result<Form, NoMemory> {
+    let mut pieces = Seq::new(alloc);
+    pieces.push(Piece::Field(FormatField::Number(Radix::Dec), Pad::Least))?;
+    pieces.push(plain(alloc, " ")?)?;
+    let mut values = Seq::new(alloc);
+    let form = ExprForm::Local {
+        up,
+        place,
+        ty: Variable::A.ty(),
+    };
+    values.push(Expr::new(alloc, form)?)?;
+    Ok(Form::Print {
+        kind: PrintKind::Now,
+        pieces,
+        values,
+    })
 }
 
 fn posedge_of(alloc: Global, variable: Variable) -> Result<Form, NoMemory> {
@@ -212,7 +282,7 @@ fn delay_of(alloc: Global, amount: u64) -> Result<Form, NoMemory> {
     })
 }
 
-fn objects_of(alloc: Global) -> Result<Seq<Object>, NoMemory> {
+pub fn objects_of(alloc: Global) -> Result<Seq<Object>, NoMemory> {
     let mut objects = Seq::new(alloc);
     for variable in [Variable::A, Variable::B, Variable::C] {
         objects.push(Object {
@@ -257,7 +327,7 @@ fn routines_of(alloc: Global, bodies: &[&[Item]]) -> Result<Seq<Routine>, NoMemo
     Ok(routines)
 }
 
-fn processes_of(alloc: Global, sides: &[Side]) -> Result<Seq<Process>, NoMemory> {
+pub fn processes_of(alloc: Global, sides: &[Side]) -> Result<Seq<Process>, NoMemory> {
     let mut processes = Seq::new(alloc);
     for (number, side) in sides.iter().enumerate() {
         processes.push(Process {

@@ -1,17 +1,20 @@
 // The effects of a process, step by step.
+use crate::runs::store_of;
 use crate::small::{HERE, Item, Source, Variable, design_of};
 use std::alloc::Global;
 use std::process::Abort;
 use std::test::Fail;
+use sv_arena::{Activations, Name};
+use sv_assign::Seen;
 use sv_built::Design;
-use sv_eval::Nowhere;
 use sv_process::{Effect, Frames, Spare, Stepped, Went, step};
-use sv_value::{NoMemory, RoutineId, Side, Text};
+use sv_value::{NoMemory, ProcessId, RoutineId, Side, Text};
 
 /// A letter for each kind of effect.
 fn letter_of(effect: &Effect) -> u8 {
     match effect {
         Effect::Write { .. } => b'w',
+        Effect::Enter { .. } => b'n',
         Effect::Turn => b't',
         Effect::Watch { .. } => b'a',
         Effect::ResumeAt(_) => b'r',
@@ -28,6 +31,7 @@ fn letter_of(effect: &Effect) -> u8 {
 fn one_step(
     alloc: Global,
     design: &Design,
+    seen: &Seen,
     frames: &mut Frames,
     spare: &mut Spare,
     text: &mut Text,
@@ -38,13 +42,18 @@ fn one_step(
         went: Went::Held,
         at: HERE,
     };
+    let next = Name {
+        process: ProcessId(0),
+        place: 0,
+    };
     step(
         frames,
         alloc,
         design,
-        &Nowhere,
+        seen,
         &mut out,
         spare,
+        next,
         &mut stepped,
     )?;
     for effect in &out {
@@ -56,11 +65,20 @@ fn one_step(
 
 /// The letters of at most 40 steps of the first routine.
 fn letters_of(alloc: Global, design: &Design) -> Result<Text, NoMemory> {
+    let store = store_of(alloc, design)?;
+    let activations = Activations::new(alloc, 1)?;
+    let seen = Seen {
+        store: &store,
+        activations: &activations,
+        scope: None,
+        time: 0,
+        unit: 1,
+    };
     let mut frames = Frames::new(alloc, RoutineId(0), None)?;
     let mut spare = Spare::none(alloc);
     let mut text = Text::new(alloc);
     for _ in 0..40 {
-        if !one_step(alloc, design, &mut frames, &mut spare, &mut text)? {
+        if !one_step(alloc, design, &seen, &mut frames, &mut spare, &mut text)? {
             return Ok(text);
         }
     }

@@ -30,10 +30,10 @@ module _ {X : Type 0} (P : X → Type 0) where
   all_get (y ∷ xs) (suc i) x e h = all_get xs i x e h.1
 
 routine_built : (d : Parts) → IsBuilt d → (r : RoutineId) → IsBuiltRoutine (routine_of d r)
-routine_built d b r = all_index_or IsBuiltRoutine d.routines r.0 _ tt b.each_routine
+routine_built d b r = all_index_or IsBuiltRoutine d.routines r.0 _ (record { body = tt; subroutine = tt }) b.each_routine
 
 stmt_built : (d : Parts) → IsBuilt d → (p : Position) (s : Stmt) → stmt_at d p ≡ Some s → IsBuiltStmt s
-stmt_built d b p s e = all_get IsBuiltStmt (routine_of d p.routine).body p.place s e (routine_built d b p.routine)
+stmt_built d b p s e = all_get IsBuiltStmt (routine_of d p.routine).body p.place s e (routine_built d b p.routine).body
 
 form_control : (f : Form) → IsBuiltForm f → AllByRecursion IsBuiltWatch (control_of f)
 form_control (form.At ws) h = h

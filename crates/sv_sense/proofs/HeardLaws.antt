@@ -16,7 +16,7 @@ use Rattle.sv_flat.specs.Eval.{value_of, width_of, is_signed}
 use Rattle.sv_flat.specs.Woken.{Changed, fired, both_make, allowed, watch_fires, some_fires}
 use Rattle.sv_flat.proofs.SameReads.{Agrees, eval_reads}
 use Rattle.sv_built.specs.declared.wait.Wait.{Wait}
-use Rattle.sv_built.specs.Built.{IsBuilt, IsBuiltExpr, IsBuiltWatch}
+use Rattle.sv_built.specs.Built.{IsBuilt, IsStaticExpr, IsBuiltWatch}
 use Rattle.sv_built.specs.Waits.{watches_at}
 use Rattle.sv_sense.specs.Objects.{objects_named, expr_objects, watch_objects, watches_objects, wait_objects, is_among}
 use Rattle.sv_sense.specs.Wakes.{SameBut, fires_at}
@@ -65,7 +65,7 @@ same_value o old new s e h = eval_reads e (width_of e) (is_signed e) old new (ag
 
 -- ---- what does not fire
 
-not_fired : (o : ObjId) (old new : View) → SameBut o old new → (g : Edge) (e : Expr) → IsBuiltExpr e → is_among o (expr_objects e) ≡ false → fired g e Changed old new ≡ false
+not_fired : (o : ObjId) (old new : View) → SameBut o old new → (g : Edge) (e : Expr) → IsStaticExpr e → is_among o (expr_objects e) ≡ false → fired g e Changed old new ≡ false
 not_fired o old new s g e b h =
     fired_is g e b old new ∙ ap (λ x. both_make g x (value_of e new)) (same_value o old new s e h) ∙ both_make_self g (value_of e new)
 

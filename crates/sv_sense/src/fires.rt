@@ -6,7 +6,7 @@ ghost use Rattle.sv_flat.specs.Eval as eval;
 ghost use Rattle.sv_flat.specs.Eval.{Valued};
 ghost use Rattle.sv_flat.specs.Woken as woken;
 ghost use Rattle.sv_flat.specs.Woken.{Changed};
-ghost use Rattle.sv_built.specs.Built.{IsBuilt, IsBuiltExpr, IsBuiltWatch};
+ghost use Rattle.sv_built.specs.Built.{IsBuilt, IsStaticExpr, IsBuiltWatch};
 ghost use Rattle.sv_built.specs.Waits.{control_of, condition_of};
 ghost use Rattle.sv_eval.specs.Evaluates.{Evaluates};
 ghost use Rattle.sv_sense.specs.Wakes.{fires_at};
@@ -29,7 +29,7 @@ fn fired<V: Values, W: Values>(
     old: &V,
     new: &W,
 ) -> Result<bool, NoMemory>
-    requires { IsBuiltExpr expr.now }
+    requires { IsStaticExpr expr.now }
     ensures { IfOk result (λ b. b ≡ woken.fired edge expr.now Changed (V.view old.now) (W.view new.now)) }
 {
     let after = value(alloc, new, expr);

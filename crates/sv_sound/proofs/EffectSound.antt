@@ -1,39 +1,41 @@
 -- A sound configuration stays sound where an effect of a built design occurs.
-use Rattle.std.proofs.Common.{ℕ, zero, suc, ◌≡◌, ◌≢◌, ◌+◌, ◌≤◌, ◌<◌, List, [], ◌∷◌, ◌++◌, Option, None, Some, Bool, true, false, cond, refl, ap, subst, sym, ◌∙◌, arith, length, slice_get, slice_set}
-use Rattle.std.specs.Prelude.{IsNone, filter, not, is_some, sum_by, ◌==◌, ◌&&◌, if◌then◌else◌}
+use Rattle.std.proofs.Common.{ℕ, ◌≡◌, ◌≢◌, ◌+◌, ◌≤◌, ◌<◌, List, [], ◌∷◌, Option, None, Some, Bool, true, false, cond, refl, ap, subst, sym, ◌∙◌, arith, length, slice_set}
+use Rattle.std.specs.Prelude.{◌^◌, filter, nat_lt, not, is_some, sum_by, ◌==◌, ◌&&◌, if◌then◌else◌}
 use Rattle.std.specs.List.{AllByRecursion}
 use Rattle.std.proofs.lemmas.Bool.{eq-eqb}
 use Rattle.std.proofs.lemmas.Bool.Decides.{nat_tests}
 use Rattle.sv_value.specs.declared.number.ProcessId.{ProcessId}
 use Rattle.sv_value.specs.declared.place.Place.{Place}
-use Rattle.sv_value.specs.declared.val.Val.{Val}
+use Rattle.sv_value.specs.declared.place.FaultKind.TheVariants as fault
 use Rattle.sv_value.specs.declared.schedule.Side.{Side}
 use Rattle.sv_value.specs.declared.schedule.Event.{Event}
 use Rattle.sv_value.specs.declared.schedule.Job.{Job}
 use Rattle.sv_value.specs.declared.schedule.Due.TheVariants.{Resume, Work}
-use Rattle.sv_value.specs.Regions.{Regions, standing, ready_in, front_of, idle_of, job_in, updates_of, regions_without}
+use Rattle.sv_value.specs.Regions.{standing, ready_in, front_of, idle_of, job_in, updates_of, regions_without}
+use Rattle.sv_flat.specs.declared.object.DataType.{DataType}
 use Rattle.sv_flat.specs.declared.process.Process.{Process}
 use Rattle.sv_flat.specs.declared.process.ProcessKind.{ProcessKind}
 use Rattle.sv_flat.specs.declared.process.ProcessKind.TheVariants as kind
 use Rattle.sv_flat.specs.declared.process.Watch.{Watch}
 use Rattle.sv_flat.specs.declared.stmt.PrintKind.TheVariants as print
 use Rattle.sv_flat.specs.declared.design.Parts.{Parts}
-use Rattle.sv_flat.specs.State.{Heap, Store}
+use Rattle.sv_flat.specs.State.{Store, Name, Activation}
 use Rattle.sv_flat.specs.Process
-use Rattle.sv_flat.specs.Process.{ProcessState, Status, Ready, Waiting, Moment, Turn_in_slot, Watches, Start, Todo, Spot, Effect, Remain, Write, Suspend, Resume_at, Update_at, Print_text, Keep_print, Finish_run, End, Fail, body_in}
-use Rattle.sv_flat.specs.Config.{Config, process_at, first_process, set_at, with_process, side_in, numbered_from, numbers_of, state_test, made_ready, all_made_ready}
-use Rattle.sv_flat.specs.Woken.{Changed, wakes, is_woken, woken}
-use Rattle.sv_flat.specs.Effects.{occurred, all_occurred, may_go_on}
+use Rattle.sv_flat.specs.Process.{ProcessState, Status, Ready, Waiting, Moment, Turn_in_slot, Watches, Start, Todo, Spot, Cell, Variable_of, Effect, Remain, Enter, Write, Suspend, Resume_at, Update_at, Print_text, Keep_print, Finish_run, End, Fail, body_in}
+use Rattle.sv_flat.specs.Config.{Config, process_at, first_process, set_at, with_process, side_in, numbered_from, state_test, made_ready, all_made_ready, met_fault}
+use Rattle.sv_flat.specs.Woken.{Changed, wakes, is_woken}
+use Rattle.sv_flat.specs.Effects.{occurred, all_occurred}
 use Rattle.sv_flat.specs.Effects.Ends.{ended, heap_without, not_due_to, is_running}
 use Rattle.sv_flat.specs.Effects.Scheduling.{scheduled, update_scheduled}
-use Rattle.sv_built.specs.Built.{IsBuilt, IsBuiltProcess}
-use Rattle.sv_sound.specs.Sound.{IsSound, IsPlainTodo, IsPlainEvent, IsPlainJob, IsPlainEffect, IsStateOf, AreStates, ArePlain, is_pending, is_parked, weight, weight_of_all, weight_of_event, weight_of_running, parked_weight}
-use Rattle.sv_sound.specs.After.{with_state, remaining, waiting_until, turned, watching, over, with_store, changed_to, store_after, recorded, strobe_kept}
+use Rattle.sv_flat.specs.Effects.Writes.{variable_over}
+use Rattle.sv_built.specs.Built.{IsBuiltProcess, IsBuiltWatch, IsBuilt}
+use Rattle.sv_sound.specs.Sound.{IsSound, IsPlainTodo, AreAwaited, IsPlainEvent, IsPlainJob, IsPlainEffect, AreStates, is_pending, is_parked, weight, weight_of_all, weight_of_event, weight_of_running, parked_weight}
+use Rattle.sv_sound.specs.After.{with_state, remaining, waiting_until, turned, watching, over, with_store, changed_to, store_after, with_activations, entered_by, entering}
 use Rattle.sv_sound.proofs.Weights.{all_append, all_at, there, pushed_weight, ready_weight, job_weight, parked_still, parked_begun, parked_done, one, one_self, once, known_of, regions_absent, absent_later}
 use Rattle.sv_sound.proofs.Plain.{body_plain, plain_ready, plain_job, plain_later, plain_update}
-use Rattle.sv_sound.proofs.States.{Found, states_length, state_found, set_free, pending_same, not_parked}
-use Rattle.sv_sound.proofs.Wakes.{other_process, not_wakes}
-use Rattle.sv_sound.proofs.Occurs.{fail_is, finish_is, now_is, effect_write_is, remain_is, print_is, strobe_is, resume_is, turn_is, watch_is, update_is, end_initial, end_always, end_always_ff, end_always_comb, end_assign, end_port, next}
+use Rattle.sv_sound.proofs.States.{Found, states_length, state_found, set_free, pending_same, not_parked, calm_awaits}
+use Rattle.sv_sound.proofs.Wakes.{AwaitBuilt, other_process}
+use Rattle.sv_sound.proofs.Occurs.{fail_is, finish_is, now_is, effect_write_is, variable_write_is, enter_is, remain_is, print_is, strobe_is, resume_is, turn_is, watch_is, update_is, end_initial, end_always, end_always_ff, end_always_comb, end_assign, end_port}
 
 -- ---- a process comes into another state
 
@@ -53,11 +55,11 @@ module _ (d : Parts) (c : Config) (k : IsSound d c) where
 
   -- the states with a process in another one, which does not wait for its start
   pub states_with : (p : ProcessId) (q : ProcessState) → process_at c p ≡ Some q → (q.latest ≡ Waiting Start → ⊥) → (v : ProcessState)
-      → v.side ≡ q.side → v.program ≡ q.program → v.parent ≡ q.parent → v.was_taken ≡ q.was_taken → AllByRecursion IsPlainTodo v.rest
+      → v.side ≡ q.side → v.program ≡ q.program → v.parent ≡ q.parent → v.was_taken ≡ q.was_taken → AllByRecursion IsPlainTodo v.rest → AreAwaited v.latest
       → AreStates (is_pending d.processes (slice_set c.processes p.0 v)) d.processes (slice_set c.processes p.0 v)
-  states_with p q is free v s g a t r =
+  states_with p q is free v s g a t r w =
       subst (λ x. AreStates x d.processes (slice_set c.processes p.0 v)) (sym (pending_same d.processes c.processes p.0 q v is t))
-      (set_free (is_pending d.processes c.processes) d.processes c.processes p.0 q k.states is free v s g a r)
+      (set_free (is_pending d.processes c.processes) d.processes c.processes p.0 q k.states is free v s g a r w)
 
   -- ---- wakes
 
@@ -69,12 +71,11 @@ module _ (d : Parts) (c : Config) (k : IsSound d c) where
       let g : Option ProcessState → Config = λ o. record c { processes = set_at o (λ s. record s { latest = Ready }) p c.processes; regions = ready_in (front_of (side_in o)) p c.regions } in
       subst (IsSound d) (sym (ap g is)) (record {
         no_heap = k.no_heap;
-        no_activations = k.no_activations;
         no_clocks = k.no_clocks;
         no_monitor = k.no_monitor;
         plain = plain_ready (front_of q.side) p c.regions k.plain;
         each_event = k.each_event;
-        states = states_with p q is free v refl refl refl refl rest;
+        states = states_with p q is free v refl refl refl refl rest tt;
         weights = λ w.
             let h = k.weights w in
             let n = ready_weight w (front_of q.side) p c.regions in
@@ -82,11 +83,26 @@ module _ (d : Parts) (c : Config) (k : IsSound d c) where
             omega (arith, h, n, e);
       })
 
+  -- whoever waits for event expressions waits for built ones
+  pub await_built : AwaitBuilt c
+  await_built = record { at = λ p q is. (found p q is).state.awaits }
+
+  -- other activations
+  pub activations_sound : (as' : List Activation) → IsSound d (with_activations as' c)
+  activations_sound as' = record {
+    no_heap = k.no_heap;
+    no_clocks = k.no_clocks;
+    no_monitor = k.no_monitor;
+    plain = k.plain;
+    each_event = k.each_event;
+    states = k.states;
+    weights = k.weights;
+  }
+
   -- other values
   store_sound : (s : Store) → IsSound d (with_store s c)
   store_sound s = record {
     no_heap = k.no_heap;
-    no_activations = k.no_activations;
     no_clocks = k.no_clocks;
     no_monitor = k.no_monitor;
     plain = k.plain;
@@ -164,7 +180,6 @@ scheduled_sound d c k s t j h = by_test (t == c.time)
     by_test : (now : Bool) → IsSound d (cond now (record c { regions = job_in (updates_of s) j c.regions }) (scheduled t (updates_of s) (Work j) c))
     by_test true = record {
       no_heap = k.no_heap;
-      no_activations = k.no_activations;
       no_clocks = k.no_clocks;
       no_monitor = k.no_monitor;
       plain = plain_job s j c.regions h k.plain;
@@ -176,7 +191,6 @@ scheduled_sound d c k s t j h = by_test (t == c.time)
         let e : Event = record { time = t; region = updates_of s; due = Work j } in
         record {
           no_heap = k.no_heap;
-          no_activations = k.no_activations;
           no_clocks = k.no_clocks;
           no_monitor = k.no_monitor;
           plain = k.plain;
@@ -239,9 +253,9 @@ module _ (d : Parts) (c : Config) (k : IsSound d c) (p : ProcessId) (r : c.runni
         ∙ ap (λ o. record c { running = None; processes = set_at o f p c.processes }) is
 
     -- and comes into any other state of its own
-    states_of : (v : ProcessState) → v.side ≡ q.side → v.program ≡ q.program → v.parent ≡ q.parent → v.was_taken ≡ q.was_taken → AllByRecursion IsPlainTodo v.rest
+    states_of : (v : ProcessState) → v.side ≡ q.side → v.program ≡ q.program → v.parent ≡ q.parent → v.was_taken ≡ q.was_taken → AllByRecursion IsPlainTodo v.rest → AreAwaited v.latest
         → AreStates (is_pending d.processes (slice_set c.processes p.0 v)) d.processes (slice_set c.processes p.0 v)
-    states_of v s g a t h = states_with d c k p q is (not_parked q.latest (runs_calm q is)) v s g a t h
+    states_of v s g a t h w = states_with d c k p q is (not_parked q.latest (runs_calm q is)) v s g a t h w
 
     rest_plain : AllByRecursion IsPlainTodo q.rest
     rest_plain = (found d c k p q is).state.rest
@@ -250,12 +264,11 @@ module _ (d : Parts) (c : Config) (k : IsSound d c) (p : ProcessId) (r : c.runni
         → is_parked v.latest ≡ false → IsSound d (with_state p v c)
     state_sound v s g a t h n = record {
       no_heap = k.no_heap;
-      no_activations = k.no_activations;
       no_clocks = k.no_clocks;
       no_monitor = k.no_monitor;
       plain = k.plain;
       each_event = k.each_event;
-      states = states_of v s g a t h;
+      states = states_of v s g a t h (calm_awaits v.latest n);
       weights = λ w. let h = k.weights w in let e = parked_still w c.processes p q v is (n ∙ sym (runs_calm q is)) in omega (arith, h, e);
     }
 
@@ -267,7 +280,6 @@ module _ (d : Parts) (c : Config) (k : IsSound d c) (p : ProcessId) (r : c.runni
         let t : IsSound d (with_state p (record q { latest = Process.Ended; rest = [] }) c) = state_sound (record q { latest = Process.Ended; rest = [] }) refl refl refl refl tt refl in
         record {
           no_heap = k.no_heap;
-          no_activations = k.no_activations;
           no_clocks = k.no_clocks;
           no_monitor = k.no_monitor;
           plain = k.plain;
@@ -283,7 +295,6 @@ module _ (d : Parts) (c : Config) (k : IsSound d c) (p : ProcessId) (r : c.runni
         let e : Event = record { time = t; region = front_of q.side; due = Resume p } in
         record {
           no_heap = k.no_heap;
-          no_activations = k.no_activations;
           no_clocks = k.no_clocks;
           no_monitor = k.no_monitor;
           plain = k.plain;
@@ -302,7 +313,6 @@ module _ (d : Parts) (c : Config) (k : IsSound d c) (p : ProcessId) (r : c.runni
         let s : IsSound d (with_state p v c) = state_sound v refl refl refl refl rest_plain refl in
         record {
           no_heap = k.no_heap;
-          no_activations = k.no_activations;
           no_clocks = k.no_clocks;
           no_monitor = k.no_monitor;
           plain = plain_ready (idle_of q.side) p c.regions k.plain;
@@ -316,17 +326,17 @@ module _ (d : Parts) (c : Config) (k : IsSound d c) (p : ProcessId) (r : c.runni
         }
 
     -- it waits for a change, with this left to run
-    watch_sound : (ws : List Watch) (rest : List Todo) → AllByRecursion IsPlainTodo rest → IsSound d (watching p (record q { rest = rest }) ws c)
-    watch_sound ws rest h =
-        let v : ProcessState = record q { latest = Waiting (Watches ws None); rest = rest } in
+    watch_sound : (ws : List Watch) → AllByRecursion IsBuiltWatch ws → (scope : Option Name) (rest : List Todo) → AllByRecursion IsPlainTodo rest
+        → IsSound d (watching p (record q { rest = rest }) ws scope c)
+    watch_sound ws b scope rest h =
+        let v : ProcessState = record q { latest = Waiting (Watches ws scope); rest = rest } in
         record {
           no_heap = k.no_heap;
-          no_activations = k.no_activations;
           no_clocks = k.no_clocks;
           no_monitor = k.no_monitor;
           plain = k.plain;
           each_event = k.each_event;
-          states = states_of v refl refl refl refl h;
+          states = states_of v refl refl refl refl h b;
           weights = λ w.
               let h = k.weights w in
               let o : weight_of_running w c.running ≡ w p = ap (weight_of_running w) r in
@@ -334,29 +344,42 @@ module _ (d : Parts) (c : Config) (k : IsSound d c) (p : ProcessId) (r : c.runni
               omega (arith, h, o, e);
         }
 
+    -- an activation more, with the first values of its variables
+    enter_sound : (at : Place) (ts : List DataType) (around : Option Name) → IsSound d (entering at p q ts around c)
+    enter_sound at ts around = by_room (nat_lt (length c.activations) (2 ^ 24))
+      where
+        by_room : (y : Bool) → IsSound d (if y then entered_by p q ts around c else met_fault fault.Activations at c)
+        by_room true =
+            activations_sound d (with_state p (record q { made = q.made + 1 }) c)
+            (state_sound (record q { made = q.made + 1 }) refl refl refl refl rest_plain (runs_calm q is)) _
+        by_room false = k
+
     end_sound : IsBuilt d → (at : Place) → IsSound d (occurred d at p End c)
     end_sound b at =
         let f = found d c k p q is in
         let built : IsBuiltProcess f.process = all_at IsBuiltProcess d.processes p.0 f.process f.at b.each_process in
-        let body = body_plain d b f.process.body in
+        let body = body_plain d b f.process.body None in
         by_kind f.process f.at built body f.process.kind refl
       where
         by_kind : (f : Process) → first_process d p ≡ Some f → IsBuiltProcess f → AllByRecursion IsPlainTodo (body_in d f.body None) → (m : ProcessKind) → f.kind ≡ m → IsSound d (occurred d at p End c)
         by_kind f e h body kind.Initial m = subst (IsSound d) (sym (end_initial d b.no_clockings at p c q is f e m h.of_module ∙ ended_is)) over_sound
         by_kind f e h body kind.Always m = subst (IsSound d) (sym (end_always d b.no_clockings at p c q is f e m)) (remain_sound (body_in d f.body None) body)
         by_kind f e h body kind.AlwaysFf m = subst (IsSound d) (sym (end_always_ff d b.no_clockings at p c q is f e m)) (remain_sound (body_in d f.body None) body)
-        by_kind f e h body kind.AlwaysComb m = subst (IsSound d) (sym (end_always_comb d b.no_clockings at p c q is f e m)) (watch_sound f.watched (body_in d f.body None) body)
-        by_kind f e h body kind.Assign m = subst (IsSound d) (sym (end_assign d b.no_clockings at p c q is f e m)) (watch_sound f.watched (body_in d f.body None) body)
-        by_kind f e h body kind.Port m = subst (IsSound d) (sym (end_port d b.no_clockings at p c q is f e m)) (watch_sound f.watched (body_in d f.body None) body)
+        by_kind f e h body kind.AlwaysComb m = subst (IsSound d) (sym (end_always_comb d b.no_clockings at p c q is f e m)) (watch_sound f.watched h.watched None (body_in d f.body None) body)
+        by_kind f e h body kind.Assign m = subst (IsSound d) (sym (end_assign d b.no_clockings at p c q is f e m)) (watch_sound f.watched h.watched None (body_in d f.body None) body)
+        by_kind f e h body kind.Port m = subst (IsSound d) (sym (end_port d b.no_clockings at p c q is f e m)) (watch_sound f.watched h.watched None (body_in d f.body None) body)
 
     -- each effect
     pub effect_sound : IsBuilt d → (at : Place) (e : Effect) → IsPlainEffect e → IsSound d (occurred d at p e c)
     effect_sound b at (Remain rest) h = subst (IsSound d) (sym (remain_is d b.no_clockings at p c q is rest)) (remain_sound rest h)
-    effect_sound b at (Write s x) h = subst (IsSound d) (sym (effect_write_is d b.no_clockings at p c s h x)) (change_sound d (store_after s x c.store) c k)
+    effect_sound b at (Enter ts around) h = subst (IsSound d) (sym (enter_is d b.no_clockings at p c q is ts h around)) (enter_sound at ts around)
+    effect_sound b at (Write (Cell o i r) x) h = subst (IsSound d) (sym (effect_write_is d b.no_clockings at p c (Cell o i r) tt x)) (change_sound d (store_after (Cell o i r) x c.store) c k)
+    effect_sound b at (Write Process.Nowhere x) h = subst (IsSound d) (sym (effect_write_is d b.no_clockings at p c Process.Nowhere tt x)) (change_sound d c.store c k)
+    effect_sound b at (Write (Variable_of n i r) x) h =
+        subst (IsSound d) (sym (variable_write_is d b.no_clockings at p c (await_built d c k) n i r x)) (activations_sound d c k (variable_over n i r x c.activations))
     effect_sound b at (Suspend Turn_in_slot) h = subst (IsSound d) (sym (turn_is d b.no_clockings at p c q is)) turn_sound
     effect_sound b at (Suspend (Watches ws scope)) h =
-        subst (λ s. IsSound d (occurred d at p (Suspend (Watches ws s)) c)) (sym h)
-        (subst (IsSound d) (sym (watch_is d b.no_clockings at p c q is ws)) (watch_sound ws q.rest rest_plain))
+        subst (IsSound d) (sym (watch_is d b.no_clockings at p c q is ws scope)) (watch_sound ws h scope q.rest rest_plain)
     effect_sound b at (Resume_at t) h = subst (IsSound d) (sym (resume_is d b.no_clockings at p c q is t)) (resume_sound t)
     effect_sound b at (Update_at t j) h = subst (IsSound d) (sym (update_is d b.no_clockings at p c q is t j)) (scheduled_sound d c k q.side t j h)
     effect_sound b at (Print_text t) h = subst (IsSound d) (sym (print_is d b.no_clockings at p c q is t)) k

@@ -1,4 +1,5 @@
 pub mod Edges
+pub mod Static
 pub mod Weights
 pub mod Plain
 pub mod States

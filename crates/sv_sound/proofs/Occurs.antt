@@ -1,37 +1,55 @@
 -- What each effect of a built design leaves.
-use Rattle.std.proofs.Common.{ℕ, ◌≡◌, List, [], ◌∷◌, ◌++◌, Option, None, Some, Bool, true, false, cond, refl, ap, sym, ◌∙◌, slice_get, slice_set, filter}
-use Rattle.std.specs.Prelude.{Ok, IsNone, ◌&&◌, not, is_some, ◌==◌, if◌then◌else◌}
+use Rattle.std.proofs.Common.{ℕ, ◌≡◌, List, [], ◌∷◌, ◌++◌, Option, None, Some, Bool, true, false, cond, refl, ap, ◌∙◌, slice_get, slice_set, filter, map, length}
+use Rattle.std.specs.Prelude.{Result, Ok, Err, ◌+◌, ◌^◌, nat_lt, IsNone, ◌&&◌, not, is_some, if◌then◌else◌}
+use Rattle.std.specs.List.{AllByRecursion}
 use Rattle.std.proofs.lemmas.Bool.{eq-eqb}
 use Rattle.sv_value.specs.declared.number.ProcessId.{ProcessId}
 use Rattle.sv_value.specs.declared.place.Place.{Place}
 use Rattle.sv_value.specs.declared.place.FaultKind.{FaultKind}
+use Rattle.sv_value.specs.declared.place.FaultKind.TheVariants as fault
 use Rattle.sv_value.specs.declared.val.Val.{Val}
-use Rattle.sv_value.specs.Regions.{Regions, regions_without, ready_in, job_in, front_of, idle_of, updates_of}
+use Rattle.sv_value.specs.declared.val.Plain.TheVariants as plain
+use Rattle.sv_value.specs.Regions.{ready_in, front_of, idle_of}
 use Rattle.sv_value.specs.declared.operator.Piece.{Piece}
-use Rattle.sv_value.specs.declared.schedule.Side.{Side}
+use Rattle.sv_value.specs.declared.schedule.Range.{Range}
 use Rattle.sv_value.specs.declared.schedule.Job.{Job}
-use Rattle.sv_value.specs.declared.schedule.Due.TheVariants.{Resume, Work}
+use Rattle.sv_value.specs.declared.schedule.Due.TheVariants.{Resume}
+use Rattle.sv_flat.specs.declared.object.DataType.{DataType}
+use Rattle.sv_flat.specs.declared.object.DataType.TheVariants as type
 use Rattle.sv_flat.specs.declared.clocking.Clocking.{Clocking}
 use Rattle.sv_flat.specs.declared.design.Parts.{Parts}
 use Rattle.sv_flat.specs.declared.process.Process.{Process}
 use Rattle.sv_flat.specs.declared.process.ProcessKind.{ProcessKind}
 use Rattle.sv_flat.specs.declared.process.ProcessKind.TheVariants as kind
 use Rattle.sv_flat.specs.declared.process.Watch.{Watch}
-use Rattle.sv_flat.specs.declared.stmt.PrintKind.{PrintKind}
 use Rattle.sv_flat.specs.declared.stmt.PrintKind.TheVariants as print
 use Rattle.sv_flat.specs.Expr.{Expr}
-use Rattle.sv_flat.specs.State.{Name}
+use Rattle.sv_flat.specs.State.{Name, Heap, World, first_value}
+use Rattle.sv_flat.specs.Eval.{with_result}
 use Rattle.sv_flat.specs.Process
-use Rattle.sv_flat.specs.Process.{ProcessState, Status, Waiting, Moment, Turn_in_slot, Watches, Todo, Effect, Spot, Cell, Remain, Write, Suspend, Resume_at, Update_at, Print_text, Keep_print, Finish_run, End, Fail, body_in}
-use Rattle.sv_flat.specs.Config.{Config, process_at, set_at, with_process, first_process, numbers_of, side_in, side_of, met_fault, all_made_ready}
-use Rattle.sv_flat.specs.Woken.{Changed, woken}
+use Rattle.sv_flat.specs.Process.{ProcessState, Status, Waiting, Moment, Turn_in_slot, Watches, Todo, Effect, Spot, Cell, Variable_of, Remain, Enter, Write, Suspend, Resume_at, Update_at, Print_text, Keep_print, Finish_run, End, Fail, body_in}
+use Rattle.sv_flat.specs.Config.{Config, process_at, set_at, with_process, first_process, numbers_of, side_in, side_of, met_fault}
 use Rattle.sv_flat.specs.Effects.{all_occurred, occurred, applied, after_change, clocks_from, occurrence, event_waiters, woken_by_effect, world_after, scheduled_after, with_world, made_by, may_go_on}
-use Rattle.sv_flat.specs.Effects.Ends.{is_running, ended, at_end, program_checked, heap_without, not_due_to}
-use Rattle.sv_flat.specs.Effects.Scheduling.{scheduled, suspended, update_scheduled, kept_print}
-use Rattle.sv_flat.specs.Effects.Writes.{wrote}
-use Rattle.sv_sound.specs.Sound.{IsPlainSpot}
-use Rattle.sv_sound.specs.After.{with_state, remaining, waiting_until, turned, watching, with_store, changed_to, store_after, recorded, strobe_kept}
-use Rattle.sv_sound.proofs.Wakes.{woken_within, change_is, slice_get-set_same, slice_set-set}
+use Rattle.sv_flat.specs.Effects.Creation.{entered, fresh_value, fresh_values}
+use Rattle.sv_flat.specs.Effects.Ends.{is_running, ended, at_end, program_checked}
+use Rattle.sv_flat.specs.Effects.Scheduling.{scheduled, suspended, update_scheduled}
+use Rattle.sv_flat.specs.Effects.Writes.{variable_over}
+use Rattle.sv_built.specs.Built.{IsBuiltType}
+use Rattle.sv_sound.specs.Sound.{IsCell}
+use Rattle.sv_sound.specs.After.{with_state, remaining, waiting_until, turned, watching, with_store, changed_to, store_after, with_activations, entered_by, entering, recorded, strobe_kept}
+use Rattle.sv_sound.proofs.Wakes.{AwaitBuilt, woken_within, none_woken, change_is, slice_get-set_same, slice_set-set}
+
+-- the first values of variables of built types make nothing on the heap
+fresh_first : (t : DataType) → IsBuiltType t → (h : Heap) → fresh_value t h ≡ Ok (first_value t, h)
+fresh_first (type.Plain (plain.Integral t)) b h = refl
+fresh_first (type.Plain plain.Text) b h = refl
+fresh_first t b h = absurd b
+
+pub fresh_built : (ts : List DataType) → AllByRecursion IsBuiltType ts → (h : Heap) → fresh_values ts h ≡ Ok (map first_value ts, h)
+fresh_built [] b h = refl
+fresh_built (t ∷ ts) b h =
+    ap (λ x. with_result x (λ a. with_result (fresh_values ts a.1) (λ b. Ok (a.0 ∷ b.0, b.1)))) (fresh_first t b.0 h)
+    ∙ ap (λ x. with_result x (λ b. Ok (first_value t ∷ b.0, b.1))) (fresh_built ts b.1 h)
 
 none_kept : {A : Type 0} (xs : List A) → filter (λ x. false) xs ≡ []
 none_kept [] = refl
@@ -61,7 +79,7 @@ module _ (d : Parts) (none : d.clockings ≡ []) (at : Place) (p : ProcessId) (c
 
   -- ---- a write
 
-  pub effect_write_is : (s : Spot) → IsPlainSpot s → (x : Val) → occurred d at p (Write s x) c ≡ changed_to d (store_after s x c.store) c
+  pub effect_write_is : (s : Spot) → IsCell s → (x : Val) → occurred d at p (Write s x) c ≡ changed_to d (store_after s x c.store) c
   effect_write_is (Cell o i r) h x =
       let new = with_store (store_after (Cell o i r) x c.store) c in
       ap (λ ps. after_change d ps c new) (woken_within d c new) ∙ change_is d none c (store_after (Cell o i r) x c.store)
@@ -69,6 +87,14 @@ module _ (d : Parts) (none : d.clockings ≡ []) (at : Place) (p : ProcessId) (c
       let new = with_store c.store c in
       ap (λ ps. after_change d ps c new) (woken_within d c new) ∙ change_is d none c c.store
   effect_write_is s h x = absurd h
+
+  -- a variable of an activation wakes nobody
+  pub variable_write_is : AwaitBuilt c → (n : Name) (i : ℕ) (r : Option Range) (x : Val)
+      → occurred d at p (Write (Variable_of n i r) x) c ≡ with_activations (variable_over n i r x c.activations) c
+  variable_write_is h n i r x =
+      let new = with_activations (variable_over n i r x c.activations) c in
+      ap (λ ps. after_change d ps c new) (woken_within d c new ∙ none_woken d c new refl refl h)
+      ∙ ap (λ (ks : List Clocking). record new { regions = clocks_from 0 ks c new c.regions }) none
 
   -- ---- effects on the process itself
 
@@ -106,10 +132,35 @@ module _ (d : Parts) (none : d.clockings ≡ []) (at : Place) (p : ProcessId) (c
         ∙ ap (λ s. record (suspended p Turn_in_slot c) { regions = ready_in (idle_of s) p c.regions }) side
         ∙ ap (λ (e : Config). record e { regions = ready_in (idle_of q.side) p c.regions }) (changed (λ q. record q { latest = Waiting Turn_in_slot }) (record c { running = None }) refl)
 
-    pub watch_is : (ws : List Watch) → occurred d at p (Suspend (Watches ws None)) c ≡ watching p q ws c
-    watch_is ws =
-        quiet (Suspend (Watches ws None)) refl refl refl (none_kept (numbers_of c))
-        ∙ changed (λ q. record q { latest = Waiting (Watches ws None) }) (record c { running = None }) refl
+    pub watch_is : (ws : List Watch) (scope : Option Name) → occurred d at p (Suspend (Watches ws scope)) c ≡ watching p q ws scope c
+    watch_is ws scope =
+        quiet (Suspend (Watches ws scope)) refl refl refl (none_kept (numbers_of c))
+        ∙ changed (λ q. record q { latest = Waiting (Watches ws scope) }) (record c { running = None }) refl
+
+    -- an activation more
+    pub enter_is : (ts : List DataType) → AllByRecursion IsBuiltType ts → (around : Option Name) → occurred d at p (Enter ts around) c ≡ entering at p q ts around c
+    enter_is ts h around =
+        ap (λ ps. after_change d ps c (applied d at p (Enter ts around) c)) (none_kept (numbers_of c))
+        ∙ ap (λ (ks : List Clocking). record (applied d at p (Enter ts around) c) { regions = clocks_from 0 ks c (applied d at p (Enter ts around) c) (applied d at p (Enter ts around) c).regions }) none
+        ∙ ap (λ o. with_world d at p (Enter ts around) c (entered p (made_by o) ts around c.world)) is
+        ∙ by_room (nat_lt (length c.activations) (2 ^ 24))
+      where
+        added : World
+        added = record c.world { activations = c.activations ++ record { name = record { process = p; place = q.made }; around = around; values = map first_value ts } ∷ [] }
+
+        to : Bool → Result (List Val × Heap) FaultKind → Config
+        to y r =
+            with_world d at p (Enter ts around) c
+            (if y
+            then with_result r (λ a. Ok (record c.world {
+              heap = a.1;
+              activations = c.activations ++ record { name = record { process = p; place = q.made }; around = around; values = a.0 } ∷ [];
+            }))
+            else Err fault.Activations)
+
+        by_room : (y : Bool) → to y (fresh_values ts c.heap) ≡ (if y then entered_by p q ts around c else met_fault fault.Activations at c)
+        by_room true = ap (to true) (fresh_built ts h c.heap) ∙ changed (λ q. record q { made = q.made + 1 }) (record c { world = added }) refl
+        by_room false = refl
 
     pub update_is : (t : ℕ) (j : Job) → occurred d at p (Update_at t j) c ≡ update_scheduled q.side t j c
     update_is t j = quiet (Update_at t j) refl refl refl (none_kept (numbers_of c)) ∙ ap (λ s. update_scheduled s t j c) side
@@ -143,13 +194,13 @@ module _ (d : Parts) (none : d.clockings ≡ []) (at : Place) (p : ProcessId) (c
       pub end_always_ff : f.kind ≡ kind.AlwaysFf → occurred d at p End c ≡ remaining p q (body_in d f.body None) c
       end_always_ff k = of_kind kind.AlwaysFf k ∙ body_again
 
-      pub end_always_comb : f.kind ≡ kind.AlwaysComb → occurred d at p End c ≡ watching p (record q { rest = body_in d f.body None }) f.watched c
+      pub end_always_comb : f.kind ≡ kind.AlwaysComb → occurred d at p End c ≡ watching p (record q { rest = body_in d f.body None }) f.watched None c
       end_always_comb k = of_kind kind.AlwaysComb k ∙ again (Waiting (Watches f.watched None)) _ body_again
 
-      pub end_assign : f.kind ≡ kind.Assign → occurred d at p End c ≡ watching p (record q { rest = body_in d f.body None }) f.watched c
+      pub end_assign : f.kind ≡ kind.Assign → occurred d at p End c ≡ watching p (record q { rest = body_in d f.body None }) f.watched None c
       end_assign k = of_kind kind.Assign k ∙ again (Waiting (Watches f.watched None)) _ body_again
 
-      pub end_port : f.kind ≡ kind.Port → occurred d at p End c ≡ watching p (record q { rest = body_in d f.body None }) f.watched c
+      pub end_port : f.kind ≡ kind.Port → occurred d at p End c ≡ watching p (record q { rest = body_in d f.body None }) f.watched None c
       end_port k = of_kind kind.Port k ∙ again (Waiting (Watches f.watched None)) _ body_again
 
 -- ---- the effects of a step, one after another

@@ -1,6 +1,6 @@
 -- The opening configuration of a built design is sound.
-use Rattle.std.proofs.Common.{ℕ, zero, suc, ◌≡◌, ◌+◌, ◌≤◌, List, [], ◌∷◌, ◌++◌, Option, None, Some, Bool, true, false, cond, refl, ap, subst, sym, ◌∙◌, arith, length, slice_get, map}
-use Rattle.std.specs.Prelude.{Result, Ok, Err, ◌&&◌, ◌||◌, not, filter, sum_by, if◌then◌else◌}
+use Rattle.std.proofs.Common.{ℕ, suc, ◌≡◌, ◌+◌, ◌≤◌, List, [], ◌∷◌, ◌++◌, Option, None, Some, Bool, true, false, cond, refl, ap, subst, sym, ◌∙◌, arith, slice_get, map}
+use Rattle.std.specs.Prelude.{Result, Ok, Err, ◌&&◌, ◌||◌, filter, sum_by, if◌then◌else◌}
 use Rattle.std.specs.List.{AllByRecursion, list_any}
 use Rattle.std.proofs.lemmas.List.Sums.{sum_by-cons}
 use Rattle.sv_value.specs.declared.number.ProcessId.{ProcessId}
@@ -23,8 +23,8 @@ use Rattle.sv_flat.specs.Effects.Creation.{fresh_value}
 use Rattle.sv_flat.specs.Config.{starts, is_always_comb, state_test, numbered_from}
 use Rattle.sv_flat.specs.Opening.{opening, opening_world, initializers_run, initializer_run, initialized, objects_added, with_first, stored, opening_process, first_status, is_ready, empty_world}
 use Rattle.sv_flat.specs.Clocks.{opening_clock}
-use Rattle.sv_built.specs.Built.{IsBuilt, IsBuiltObject, IsBuiltType, IsBuiltInitial, IsBuiltProcess}
-use Rattle.sv_sound.specs.Sound.{IsSound, AreStates, IsStateOf, is_pending, is_parked, parked_weight, weight_of_all, weight_of_event}
+use Rattle.sv_built.specs.Built.{IsBuiltObject, IsBuiltType, IsBuiltInitial, IsBuiltProcess, IsBuilt}
+use Rattle.sv_sound.specs.Sound.{IsSound, AreAwaited, AreStates, is_pending, is_parked, parked_weight, weight_of_all, weight_of_event}
 use Rattle.sv_sound.proofs.Weights.{standing_weight}
 use Rattle.sv_sound.proofs.Plain.{body_plain}
 use Rattle.sv_sound.proofs.Wakes.{TestsStates}
@@ -82,10 +82,17 @@ module _ (d : Parts) (b : IsBuilt d) where
   held_first : (y : Bool) (f : Process) → y ≡ true → is_always_comb f.kind ≡ true → first_status y f ≡ Waiting Start
   held_first y f h c = ap (λ x. if x && y then Waiting Start else Ready) c ∙ ap (λ x. if x then Waiting Start else Ready) h
 
+  first_awaits : (y : Bool) (f : Process) → AreAwaited (first_status y f)
+  first_awaits y f = by_test (is_always_comb f.kind && y)
+    where
+      by_test : (z : Bool) → AreAwaited (if z then Waiting Start else Ready)
+      by_test true = tt
+      by_test false = tt
+
   states_are : (fs : List Process) → AllByRecursion IsBuiltProcess fs → AreStates (list_any starts d.processes) fs (map (opening_process d) fs)
   states_are [] h = tt
   states_are (f ∷ fs) h =
-      (record { side = refl; program = h.0.of_module; parent = refl; rest = body_plain d b f.body; held = λ y c. held_first (list_any starts d.processes) f y c }, states_are fs h.1)
+      (record { side = refl; program = h.0.of_module; parent = refl; rest = body_plain d b f.body None; awaits = first_awaits (list_any starts d.processes) f; held = λ y c. held_first (list_any starts d.processes) f y c }, states_are fs h.1)
 
   -- ---- their weights
 
@@ -150,7 +157,6 @@ module _ (d : Parts) (b : IsBuilt d) where
   opening_sound =
       record {
         no_heap = ap (λ (w : World). w.heap) (opening_only d b).is;
-        no_activations = ap (λ (w : World). w.activations) (opening_only d b).is;
         no_clocks = ap (map (opening_clock d)) b.no_clockings;
         no_monitor = refl;
         plain = record { active = record { jobs = tt; updates = tt; clocks = refl }; reactive = record { jobs = tt; updates = tt; clocks = refl } };

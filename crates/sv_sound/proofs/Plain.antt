@@ -10,9 +10,10 @@ use Rattle.sv_value.specs.declared.schedule.Due.{Due}
 use Rattle.sv_value.specs.declared.schedule.Due.TheVariants.{Resume, Work}
 use Rattle.sv_value.specs.declared.schedule.Region.{Region}
 use Rattle.sv_value.specs.declared.schedule.Region.TheVariants as region
-use Rattle.sv_value.specs.Regions.{Set, Regions, set_of, with_set, ready_in, job_in, due_in, moved, front_of, idle_of, updates_of}
+use Rattle.sv_value.specs.Regions.{Set, Regions, set_of, with_set, ready_in, job_in, due_in, moved, front_of, updates_of}
 use Rattle.sv_flat.specs.declared.stmt.Stmt.{Stmt}
 use Rattle.sv_flat.specs.declared.design.Parts.{Parts}
+use Rattle.sv_flat.specs.State.{Name}
 use Rattle.sv_flat.specs.Process.{Do, routine_of, body_in, optional_body_in}
 use Rattle.sv_built.specs.Built.{IsBuilt, IsBuiltStmt, IsBuiltRoutine}
 use Rattle.sv_sound.specs.Sound.{IsPlainTodo, IsPlainJob, IsDue, IsPlainSet, ArePlain}
@@ -20,19 +21,19 @@ use Rattle.sv_sound.proofs.Weights.{all_append, all_index_or}
 
 -- ---- bodies
 
-pub todos_plain : (ss : List Stmt) → AllByRecursion IsBuiltStmt ss → AllByRecursion IsPlainTodo (map (λ s. Do s s.calls None None) ss)
-todos_plain [] h = tt
-todos_plain (s ∷ ss) h = ((h.0, h.0.no_calls, refl, refl), todos_plain ss h.1)
+pub todos_plain : (ss : List Stmt) → AllByRecursion IsBuiltStmt ss → (scope : Option Name) → AllByRecursion IsPlainTodo (map (λ s. Do s s.calls scope None) ss)
+todos_plain [] h scope = tt
+todos_plain (s ∷ ss) h scope = ((h.0, h.0.calls), todos_plain ss h.1 scope)
 
 pub routine_built : (d : Parts) → IsBuilt d → (r : RoutineId) → IsBuiltRoutine (routine_of d r)
-routine_built d b r = all_index_or IsBuiltRoutine d.routines r.0 _ tt b.each_routine
+routine_built d b r = all_index_or IsBuiltRoutine d.routines r.0 _ (record { body = tt; subroutine = tt }) b.each_routine
 
-pub body_plain : (d : Parts) → IsBuilt d → (r : RoutineId) → AllByRecursion IsPlainTodo (body_in d r None)
-body_plain d b r = todos_plain (routine_of d r).body (routine_built d b r)
+pub body_plain : (d : Parts) → IsBuilt d → (r : RoutineId) (scope : Option Name) → AllByRecursion IsPlainTodo (body_in d r scope)
+body_plain d b r scope = todos_plain (routine_of d r).body (routine_built d b r).body scope
 
-pub optional_body_plain : (d : Parts) → IsBuilt d → (r : Option RoutineId) → AllByRecursion IsPlainTodo (optional_body_in d r None)
-optional_body_plain d b None = tt
-optional_body_plain d b (Some r) = body_plain d b r
+pub optional_body_plain : (d : Parts) → IsBuilt d → (r : Option RoutineId) (scope : Option Name) → AllByRecursion IsPlainTodo (optional_body_in d r scope)
+optional_body_plain d b None scope = tt
+optional_body_plain d b (Some r) scope = body_plain d b r scope
 
 -- ---- regions
 

@@ -1,7 +1,7 @@
 -- Each kind of step leaves a sound configuration, so all that are reached are sound.
-use Rattle.std.proofs.Common.{ℕ, zero, suc, ◌≡◌, ◌≢◌, ◌+◌, ◌<◌, ◌≤◌, List, [], ◌∷◌, ◌++◌, Option, None, Some, Bool, true, false, cond, refl, ap, subst, sym, ◌∙◌, arith, length, slice_get, slice_set, map}
+use Rattle.std.proofs.Common.{ℕ, zero, suc, ◌≡◌, ◌≢◌, ◌+◌, ◌<◌, ◌≤◌, List, [], ◌∷◌, Option, None, Some, Bool, true, false, cond, refl, ap, subst, sym, ◌∙◌, arith, length, slice_get, slice_set, map}
 use Rattle.std.specs.Prelude.{Result, Ok, Err, IsNone, IsSome, ◌&&◌, ◌||◌, not, is_some, ◌==◌, filter, remove, sum_by, unwrap_or, if◌then◌else◌}
-use Rattle.std.specs.List.{AllByRecursion, list_any}
+use Rattle.std.specs.List.{AllByRecursion}
 use Rattle.std.proofs.lemmas.Bool.Decides.{nat_tests}
 use Rattle.std.proofs.lemmas.Grind.{common_steps}
 use Rattle.std.proofs.lemmas.List.Filters.{sum_by-filter_both}
@@ -15,27 +15,27 @@ use Rattle.sv_value.specs.declared.schedule.Event.{Event}
 use Rattle.sv_value.specs.declared.schedule.Job.{Job}
 use Rattle.sv_value.specs.declared.schedule.Job.TheVariants.{Update, Clock}
 use Rattle.sv_value.specs.declared.schedule.Update.{Update as Part}
-use Rattle.sv_value.specs.Regions.{Regions, Set, with_set, standing, pickable, moved, due_in, same_side, ready_in, front_of}
+use Rattle.sv_value.specs.Regions.{Regions, Set, with_set, standing, pickable, moved, due_in, ready_in, front_of}
 use Rattle.sv_flat.specs.declared.choices.Choices.{Choices}
 use Rattle.sv_flat.specs.declared.process.Process.{Process}
 use Rattle.sv_flat.specs.declared.design.Parts.{Parts}
-use Rattle.sv_flat.specs.State.{World, Heap}
-use Rattle.sv_flat.specs.Process.{ProcessState, Status, Running, Ready, Waiting, Start, Cell, no_place}
+use Rattle.sv_flat.specs.State.{Heap}
+use Rattle.sv_flat.specs.Process.{ProcessState, Running, Ready, Cell, no_place}
 use Rattle.sv_flat.specs.Effects.{write_occurred}
 use Rattle.sv_flat.specs.Config.{Config, Strobe, starts, process_at, set_at, side_in, with_process, first_process, numbered_from, numbers_of, state_test, made_ready, all_made_ready, first_test, is_always_comb}
-use Rattle.sv_flat.specs.Clocks.{preponed_from, opening_clock}
-use Rattle.sv_flat.specs.Steps.{Kind, Begin_slot, Take_process, Run_statement, Take_job, Move_region, End_slot, Next_time, IsOpen, IsLegal, acting, front, after, effect, counted, numbers_used, side_after, taken_at, taken_process, combs_started, held_combs, is_starter, waiting_starters, statement_ran, ran_state, job_taken, job_done, updates_written, strobe_text, strobe_printed, monitor_printed, strobes_printed, closed, untriggered, came_due, moved_to, least_time}
+use Rattle.sv_flat.specs.Clocks.{preponed_from}
+use Rattle.sv_flat.specs.Steps.{Kind, Begin_slot, Take_process, Run_statement, Take_job, Move_region, End_slot, Next_time, IsOpen, IsLegal, acting, front, after, effect, counted, numbers_used, side_after, taken_at, combs_started, is_starter, waiting_starters, statement_ran, ran_state, job_taken, job_done, updates_written, strobe_text, strobe_printed, monitor_printed, strobes_printed, closed, untriggered, came_due, moved_to, least_time}
 use Rattle.sv_flat.specs.Directed.{directed, advanced, next_kind, after_kind}
 use Rattle.sv_flat.specs.Laws.{IsReached}
 use Rattle.sv_flat.proofs.Opens.{open_kind}
 use Rattle.sv_built.specs.Built.{IsBuilt}
-use Rattle.sv_sound.specs.Sound.{IsSound, IsPlainEvent, IsPlainSet, IsPlainJob, ArePlain, IsPlainTodo, IsStateOf, AreStates, is_pending, pending_count, is_parked, weight_of_all, weight_of_event}
+use Rattle.sv_sound.specs.Sound.{IsSound, IsPlainEvent, IsPlainSet, IsPlainJob, ArePlain, AreStates, is_pending, pending_count, is_parked, weight_of_event}
 use Rattle.sv_sound.specs.After.{with_state, taken_short, taken_off, is_last}
-use Rattle.sv_sound.proofs.Weights.{all_set, all_filter, all_at, there, removed_weight, ready_weight, due_weight, with_set_weight, moved_weight, parked_still, parked_done, one, one_self, once}
+use Rattle.sv_sound.proofs.Weights.{all_filter, there, removed_weight, ready_weight, due_weight, with_set_weight, moved_weight, parked_still, parked_done, one, one_self, once}
 use Rattle.sv_sound.proofs.Plain.{plain_of, plain_with, same_jobs, plain_ready, plain_due, plain_moved}
-use Rattle.sv_sound.proofs.States.{Found, state_found, set_free, set_any, weaker, pending_same, pending_taken, pending_none, pending_counted, TellsPending, not_parked}
-use Rattle.sv_sound.proofs.Wakes.{write_is, other_process, slice_get-set_same}
-use Rattle.sv_sound.proofs.EffectSound.{known, found, each_process, change_sound, running_known, runs_calm, state_sound, all_sound}
+use Rattle.sv_sound.proofs.States.{state_found, set_free, set_any, weaker, pending_same, pending_taken, pending_none, pending_counted, not_parked}
+use Rattle.sv_sound.proofs.Wakes.{write_is, other_process}
+use Rattle.sv_sound.proofs.EffectSound.{known, found, change_sound, running_known, runs_calm, state_sound, all_sound}
 use Rattle.sv_sound.proofs.MicroPlain.{micro_plain}
 use Rattle.sv_sound.proofs.Opening.{opening_sound}
 
@@ -87,7 +87,6 @@ module _ (d : Parts) (b : IsBuilt d) where
   closed_sound : (c : Config) → IsSound d c → IsSound d (closed c)
   closed_sound c k = record {
     no_heap = ap (λ (h : Heap). record h { events = map untriggered h.events }) k.no_heap;
-    no_activations = k.no_activations;
     no_clocks = k.no_clocks;
     no_monitor = k.no_monitor;
     plain = k.plain;
@@ -132,7 +131,6 @@ module _ (d : Parts) (c : Config) (k : IsSound d c) where
   regions_sound : (r : Regions) → ArePlain r → ((w : ProcessId → ℕ) → sum_by w (standing r) ≤ sum_by w (standing c.regions)) → IsSound d (record c { regions = r })
   regions_sound r h l = record {
     no_heap = k.no_heap;
-    no_activations = k.no_activations;
     no_clocks = k.no_clocks;
     no_monitor = k.no_monitor;
     plain = h;
@@ -149,7 +147,6 @@ module _ (d : Parts) (c : Config) (k : IsSound d c) where
       let came = all_came due (all_filter IsPlainEvent is_due c.future k.each_event) c.regions k.plain in
       record {
         no_heap = k.no_heap;
-        no_activations = k.no_activations;
         no_clocks = k.no_clocks;
         no_monitor = k.no_monitor;
         plain = came.plain;
@@ -204,7 +201,6 @@ module _ (d : Parts) (c : Config) (k : IsSound d c) where
   begin_sound : IsSound d (record c { phase = Open; executed = Active; clocks = [] })
   begin_sound = record {
     no_heap = k.no_heap;
-    no_activations = k.no_activations;
     no_clocks = refl;
     no_monitor = k.no_monitor;
     plain = k.plain;
@@ -234,7 +230,7 @@ module _ (d : Parts) (c : Config) (k : IsSound d c) (place : ℕ) (p : ProcessId
   -- the states, as far as before a starter was to come
   pub states_then : AreStates (is_pending d.processes c.processes) d.processes (slice_set c.processes p.0 v)
   states_then =
-      set_free (is_pending d.processes c.processes) d.processes c.processes p.0 q k.states is (not_parked q.latest calm) v refl refl refl (found d c k p q is).state.rest
+      set_free (is_pending d.processes c.processes) d.processes c.processes p.0 q k.states is (not_parked q.latest calm) v refl refl refl (found d c k p q is).state.rest tt
 
   states_now : AreStates (is_pending d.processes (slice_set c.processes p.0 v)) d.processes (slice_set c.processes p.0 v)
   states_now =
@@ -243,7 +239,6 @@ module _ (d : Parts) (c : Config) (k : IsSound d c) (place : ℕ) (p : ProcessId
   pub now_sound : IsSound d (record (taken_off place c) { running = Some p; processes = slice_set c.processes p.0 v })
   now_sound = record {
     no_heap = k.no_heap;
-    no_activations = k.no_activations;
     no_clocks = k.no_clocks;
     no_monitor = k.no_monitor;
     plain = plain_with (acting c) (record (front c) { ready = remove (front c).ready place }) c.regions (same_jobs (front c) _ refl refl refl (plain_front d c k)) k.plain;
@@ -267,13 +262,12 @@ module _ (d : Parts) where
       let g : Option ProcessState → Config = λ o. record c { processes = set_at o (λ s. record s { latest = Ready }) p c.processes; regions = ready_in (front_of (side_in o)) p c.regions } in
       subst (IsSound d) (sym (ap g is)) (record {
         no_heap = k.no_heap;
-        no_activations = k.no_activations;
         no_clocks = k.no_clocks;
         no_monitor = k.no_monitor;
         plain = plain_ready (front_of q.side) p c.regions k.plain;
         each_event = k.each_event;
         states = subst (λ x. AreStates x d.processes (slice_set c.processes p.0 v)) (sym (pending_same d.processes c.processes p.0 q v is refl ∙ none))
-            (set_any d.processes c.processes p.0 q all is v refl refl refl (found d c k p q is).state.rest);
+            (set_any d.processes c.processes p.0 q all is v refl refl refl (found d c k p q is).state.rest tt);
         weights = λ w.
             let h = k.weights w in
             let n = ready_weight w (front_of q.side) p c.regions in

@@ -1,12 +1,13 @@
 -- The states of the processes of a design.
-use Rattle.std.proofs.Common.{ℕ, zero, suc, ◌≡◌, ◌+◌, List, [], ◌∷◌, Option, None, Some, Bool, true, false, cond, refl, ap, subst, sym, ◌∙◌, arith, length, slice_get, slice_set}
+use Rattle.std.proofs.Common.{ℕ, zero, suc, ◌≡◌, ◌+◌, List, [], ◌∷◌, Some, Bool, true, false, cond, refl, ap, subst, sym, ◌∙◌, arith, length, slice_get, slice_set}
 use Rattle.std.specs.Prelude.{not, ◌&&◌, ◌||◌, filter, if◌then◌else◌}
 use Rattle.std.specs.List.{AllByRecursion}
 use Rattle.sv_value.specs.declared.number.ProcessId.{ProcessId}
 use Rattle.sv_flat.specs.declared.process.Process.{Process}
-use Rattle.sv_flat.specs.Process.{ProcessState, Status, Waiting, Start, Todo}
-use Rattle.sv_flat.specs.Config.{starts, is_always_comb, numbered_from}
-use Rattle.sv_sound.specs.Sound.{is_parked, IsPlainTodo, is_pending, pending_count, IsStateOf, AreStates}
+use Rattle.sv_flat.specs.Process
+use Rattle.sv_flat.specs.Process.{ProcessState, Status, Ready, Running, Waiting, Moment, Turn_in_slot, Watches, Children, Queue, Start, Todo}
+use Rattle.sv_flat.specs.Config.{starts, numbered_from}
+use Rattle.sv_sound.specs.Sound.{is_parked, IsPlainTodo, AreAwaited, is_pending, pending_count, IsStateOf, AreStates}
 
 -- the process of the design with the same number, and what is known of the state
 pub record Found (x : Bool) (fs : List Process) (i : ℕ) (q : ProcessState) : Type 0 where
@@ -41,14 +42,15 @@ module _ (x : Bool) where
 
   -- a process that does not wait for its start may come into any state
   pub set_free : (fs : List Process) (qs : List ProcessState) (i : ℕ) (q : ProcessState) → AreStates x fs qs → slice_get qs i ≡ Some q → (q.latest ≡ Waiting Start → ⊥)
-      → (v : ProcessState) → v.side ≡ q.side → v.program ≡ q.program → v.parent ≡ q.parent → AllByRecursion IsPlainTodo v.rest → AreStates x fs (slice_set qs i v)
-  set_free fs qs i q h e free v s g a t =
+      → (v : ProcessState) → v.side ≡ q.side → v.program ≡ q.program → v.parent ≡ q.parent → AllByRecursion IsPlainTodo v.rest → AreAwaited v.latest → AreStates x fs (slice_set qs i v)
+  set_free fs qs i q h e free v s g a t w =
       let k = state_found fs qs i q h e in
       states_set fs qs i k.process v h k.at (record {
         side = s ∙ k.state.side;
         program = g ∙ k.state.program;
         parent = a ∙ k.state.parent;
         rest = t;
+        awaits = w;
         held = λ y z. absurd (free (k.state.held y z));
       })
 
@@ -56,7 +58,7 @@ module _ (x : Bool) where
   pub weaker : (y : Bool) → (y ≡ true → x ≡ true) → (fs : List Process) (qs : List ProcessState) → AreStates x fs qs → AreStates y fs qs
   weaker y l [] [] h = tt
   weaker y l (f ∷ fs) (q ∷ qs) h =
-      (record { side = h.0.side; program = h.0.program; parent = h.0.parent; rest = h.0.rest; held = λ z c. h.0.held (l z) c }, weaker y l fs qs h.1)
+      (record { side = h.0.side; program = h.0.program; parent = h.0.parent; rest = h.0.rest; awaits = h.0.awaits; held = λ z c. h.0.held (l z) c }, weaker y l fs qs h.1)
   weaker y l [] (q ∷ qs) h = absurd h
   weaker y l (f ∷ fs) [] h = absurd h
 
@@ -96,6 +98,18 @@ pending_taken (f ∷ fs) (r ∷ qs) (suc i) v h k = by_test (starts f && not r.w
 pub not_parked : (s : Status) → is_parked s ≡ false → s ≡ Waiting Start → ⊥
 not_parked s h e = let z : true ≡ false = sym (ap is_parked e) ∙ h in absurd (cc)
 
+-- and waits for no event expressions
+pub calm_awaits : (s : Status) → is_parked s ≡ false → AreAwaited s
+calm_awaits (Waiting (Watches ws scope)) h = absurd (cc)
+calm_awaits (Waiting Moment) h = tt
+calm_awaits (Waiting Turn_in_slot) h = tt
+calm_awaits (Waiting (Children all ps)) h = tt
+calm_awaits (Waiting Queue) h = tt
+calm_awaits (Waiting Start) h = tt
+calm_awaits Ready h = tt
+calm_awaits Running h = tt
+calm_awaits Process.Ended h = tt
+
 -- ---- how many starters are to come
 
 pub pending_none : (fs : List Process) (qs : List ProcessState) → pending_count fs qs ≡ 0 → is_pending fs qs ≡ false
@@ -129,13 +143,14 @@ pending_counted x g n (f ∷ fs) [] h t = absurd h
 
 -- where none is to come, a process may come into any state
 pub set_any : (fs : List Process) (qs : List ProcessState) (i : ℕ) (q : ProcessState) → AreStates false fs qs → slice_get qs i ≡ Some q
-    → (v : ProcessState) → v.side ≡ q.side → v.program ≡ q.program → v.parent ≡ q.parent → AllByRecursion IsPlainTodo v.rest → AreStates false fs (slice_set qs i v)
-set_any fs qs i q h e v s g a t =
+    → (v : ProcessState) → v.side ≡ q.side → v.program ≡ q.program → v.parent ≡ q.parent → AllByRecursion IsPlainTodo v.rest → AreAwaited v.latest → AreStates false fs (slice_set qs i v)
+set_any fs qs i q h e v s g a t w =
     let k = state_found false fs qs i q h e in
     states_set false fs qs i k.process v h k.at (record {
       side = s ∙ k.state.side;
       program = g ∙ k.state.program;
       parent = a ∙ k.state.parent;
       rest = t;
+      awaits = w;
       held = λ y z. absurd (let n : false ≡ true = y in cc);
     })

@@ -1,6 +1,6 @@
 -- What a change leaves: the new values, and the processes that it wakes.
 use Rattle.std.proofs.Common.{ℕ, zero, suc, ◌≡◌, ◌≢◌, ◌+◌, List, [], ◌∷◌, Option, None, Some, Bool, true, false, cond, refl, ap, sym, ◌∙◌, arith, slice_get, slice_set, ◌++◌, length}
-use Rattle.std.specs.Prelude.{Ok, Err, IsNone, ◌&&◌, ◌||◌, ◌==◌, filter, if◌then◌else◌}
+use Rattle.std.specs.Prelude.{Ok, ◌&&◌, ◌||◌, ◌==◌, filter, if◌then◌else◌}
 use Rattle.std.proofs.lemmas.Bool.{eq-eqb}
 use Rattle.std.proofs.lemmas.Bool.Decides.{nat_tests}
 use Rattle.std.proofs.lemmas.List.{length-append}
@@ -10,15 +10,16 @@ use Rattle.sv_value.specs.declared.val.Val.{Val}
 use Rattle.sv_value.specs.Regions.{Regions, ready_in, front_of}
 use Rattle.sv_flat.specs.declared.clocking.Clocking.{Clocking}
 use Rattle.sv_flat.specs.declared.design.Parts.{Parts}
-use Rattle.sv_flat.specs.State.{Store, World}
+use Rattle.sv_flat.specs.State.{Store, World, value_at}
 use Rattle.sv_flat.specs.Process
 use Rattle.sv_flat.specs.Process.{ProcessState, Status, Ready, Running, Waiting, Moment, Turn_in_slot, Watches, Children, Queue, Start, Spot, Cell}
-use Rattle.sv_flat.specs.Config.{Config, process_at, set_at, numbered_from, numbers_of, state_test, made_ready, all_made_ready, side_in}
+use Rattle.sv_flat.specs.Config.{Config, seen, process_at, set_at, numbered_from, numbers_of, state_test, made_ready, all_made_ready, side_in}
 use Rattle.sv_flat.specs.Woken.{Occurrence, Changed, wakes, is_woken, woken}
 use Rattle.sv_flat.specs.Effects.{write_occurred, after_write, after_change, clocks_from, is_in}
 use Rattle.sv_flat.specs.Effects.Writes.{wrote}
-use Rattle.sv_sound.specs.Sound.{is_parked, IsPlainSpot}
+use Rattle.sv_sound.specs.Sound.{is_parked, IsCell, AreAwaited}
 use Rattle.sv_sound.specs.After.{with_store, changed_to, store_after}
+use Rattle.sv_sound.proofs.Static.{none_fire}
 
 -- ---- those that an effect wakes
 
@@ -117,9 +118,31 @@ not_wakes d o old new (Waiting (Children all ps)) h = refl
 not_wakes d o old new (Waiting Queue) h = refl
 not_wakes d o old new (Waiting Start) h = refl
 
+-- ---- a change of no object wakes nobody
+
+-- whoever waits for event expressions waits for built ones
+pub record AwaitBuilt (c : Config) : Type 0 where
+  pub at : (p : ProcessId) (q : ProcessState) → process_at c p ≡ Some q → AreAwaited q.latest
+
+none_wakes : (d : Parts) (old new : Config) → new.store ≡ old.store → new.time ≡ old.time → (s : Status) → AreAwaited s → wakes d Changed old new s ≡ false
+none_wakes d old new e t (Waiting (Watches ws scope)) h =
+    none_fire ws h (seen d old scope) (seen d new scope) (record { object = ap value_at (sym e); now = sym t; unit = refl })
+none_wakes d old new e t s h = refl
+
+none_kept : (f : ProcessId → Bool) (ps : List ProcessId) → ((p : ProcessId) → f p ≡ false) → filter f ps ≡ []
+none_kept f [] h = refl
+none_kept f (p ∷ ps) h = ap (λ b. cond b (p ∷ filter f ps) (filter f ps)) (h p) ∙ none_kept f ps h
+
+pub none_woken : (d : Parts) (old new : Config) → new.store ≡ old.store → new.time ≡ old.time → AwaitBuilt old → woken d Changed old new ≡ []
+none_woken d old new e t h = none_kept _ (numbers_of old) (λ p. by_state p (process_at old p) refl)
+  where
+    by_state : (p : ProcessId) (o : Option ProcessState) → process_at old p ≡ o → state_test (is_woken d Changed old new) o ≡ false
+    by_state p None is = refl
+    by_state p (Some q) is = none_wakes d old new e t q.latest (h.at p q is)
+
 -- ---- a write of a design without clocking blocks
 
-wrote_is : (s : Spot) → IsPlainSpot s → (x : Val) (w : World) → wrote s x w ≡ Ok (record w { store = store_after s x w.store })
+wrote_is : (s : Spot) → IsCell s → (x : Val) (w : World) → wrote s x w ≡ Ok (record w { store = store_after s x w.store })
 wrote_is (Cell o i r) h x w = refl
 wrote_is Process.Nowhere h x w = refl
 wrote_is s h x w = absurd h
@@ -130,7 +153,7 @@ change_is d none c s =
     let new = with_store s c in
     ap (λ (ks : List Clocking). all_made_ready (woken d Changed c new) (record new { regions = clocks_from 0 ks c new c.regions })) none
 
-pub write_is : (d : Parts) → d.clockings ≡ [] → (at : Place) (s : Spot) → IsPlainSpot s → (x : Val) (c : Config)
+pub write_is : (d : Parts) → d.clockings ≡ [] → (at : Place) (s : Spot) → IsCell s → (x : Val) (c : Config)
     → write_occurred d at s x c ≡ changed_to d (store_after s x c.store) c
 write_is d none at s h x c = ap (after_write d at c) (wrote_is s h x c.world) ∙ change_is d none c (store_after s x c.store)
 

@@ -1,18 +1,21 @@
 -- What an effect leaves in a run of a built design, in short (IEEE 1800-2017, 4.4, 9.4, 10.4 and 21.2).
-use Rattle.std.specs.Prelude.{ℕ, Bool, true, List, [], ◌∷◌, ◌++◌, ◌&&◌, Option, None, Some, length, remove, slice_set, if◌then◌else◌, ◌==◌}
+use Rattle.std.specs.Prelude.{ℕ, ◌+◌, ◌^◌, Bool, true, List, [], ◌∷◌, ◌++◌, ◌&&◌, Option, None, Some, length, map, remove, slice_set, nat_lt, if◌then◌else◌, ◌==◌}
 use Rattle.sv_value.specs.declared.number.ProcessId.{ProcessId}
+use Rattle.sv_value.specs.declared.place.Place.{Place}
+use Rattle.sv_value.specs.declared.place.FaultKind.TheVariants as fault
 use Rattle.sv_value.specs.declared.val.Val.{Val}
 use Rattle.sv_value.specs.declared.schedule.Due.TheVariants.{Resume}
 use Rattle.sv_value.specs.Regions.{with_set, ready_in, front_of, idle_of}
+use Rattle.sv_flat.specs.declared.object.DataType.{DataType}
 use Rattle.sv_flat.specs.declared.process.Process.{Process}
 use Rattle.sv_flat.specs.declared.process.ProcessKind.{ProcessKind}
 use Rattle.sv_flat.specs.declared.process.ProcessKind.TheVariants as kind
 use Rattle.sv_flat.specs.declared.process.Watch.{Watch}
 use Rattle.sv_flat.specs.declared.design.Parts.{Parts}
-use Rattle.sv_flat.specs.State.{Store}
+use Rattle.sv_flat.specs.State.{Store, Name, Activation, first_value}
 use Rattle.sv_flat.specs.Process
 use Rattle.sv_flat.specs.Process.{ProcessState, Running, Waiting, Moment, Turn_in_slot, Watches, Todo, Spot, Cell, body_in}
-use Rattle.sv_flat.specs.Config.{Config, Strobe, with_process, all_made_ready}
+use Rattle.sv_flat.specs.Config.{Config, Strobe, with_process, all_made_ready, met_fault}
 use Rattle.sv_flat.specs.Steps.{acting, front, is_starter, waiting_starters}
 use Rattle.sv_flat.specs.Woken.{Changed, woken}
 use Rattle.sv_flat.specs.Effects.Writes.{changed_at, stored_over}
@@ -43,9 +46,9 @@ turned p q c =
       regions = ready_in (idle_of q.side) p c.regions;
     }
 
--- the process waits for one of these changes
-abbrev pub watching : ProcessId → ProcessState → List Watch → Config → Config
-watching p q ws c = record (with_state p (record q { latest = Waiting (Watches ws None) }) c) { running = None }
+-- the process waits for one of these changes, seen from a scope
+abbrev pub watching : ProcessId → ProcessState → List Watch → Option Name → Config → Config
+watching p q ws scope c = record (with_state p (record q { latest = Waiting (Watches ws scope) }) c) { running = None }
 
 -- the process is over
 abbrev pub over : ProcessId → ProcessState → Config → Config
@@ -56,7 +59,7 @@ abbrev pub at_end_of : Parts → Process → ProcessKind → ProcessId → Proce
 at_end_of d f kind.Initial p q c = over p q c
 at_end_of d f kind.Always p q c = remaining p q (body_in d f.body None) c
 at_end_of d f kind.AlwaysFf p q c = remaining p q (body_in d f.body None) c
-at_end_of d f k p q c = watching p (record q { rest = body_in d f.body None }) f.watched c
+at_end_of d f k p q c = watching p (record q { rest = body_in d f.body None }) f.watched None c
 
 -- ---- a change
 
@@ -72,6 +75,22 @@ changed_to d s c = all_made_ready (woken d Changed c (with_store s c)) (with_sto
 abbrev pub store_after : Spot → Val → Store → Store
 store_after (Cell o i r) x s = changed_at s o.0 (stored_over i r x)
 store_after _ x s = s
+
+-- ---- activations
+
+-- the activations are these
+abbrev pub with_activations : List Activation → Config → Config
+with_activations as' c = record c { world = record c.world { activations = as' } }
+
+-- an activation more of a process, with the first values of variables of these types
+abbrev pub entered_by : ProcessId → ProcessState → List DataType → Option Name → Config → Config
+entered_by p q ts around c =
+    with_state p (record q { made = q.made + 1 })
+    (with_activations (c.activations ++ record { name = record { process = p; place = q.made }; around = around; values = map first_value ts } ∷ []) c)
+
+-- an activation more, or the fault that there are too many
+abbrev pub entering : Place → ProcessId → ProcessState → List DataType → Option Name → Config → Config
+entering at p q ts around c = if nat_lt (length c.activations) (2 ^ 24) then entered_by p q ts around c else met_fault fault.Activations at c
 
 -- ---- texts
 

@@ -16,10 +16,10 @@ use Rattle.sv_flat.specs.declared.stmt.PrintKind.TheVariants as print
 use Rattle.sv_flat.specs.declared.design.Parts.{Parts}
 use Rattle.sv_flat.specs.State.{World}
 use Rattle.sv_flat.specs.Process
-use Rattle.sv_flat.specs.Process.{ProcessState, Status, Waiting, Watches, Turn_in_slot, Start, Until, Todo, Do, Turn, Turns, Put, Spot, Cell, Effect, Remain, Write, Suspend, Resume_at, Update_at, Print_text, Keep_print, Finish_run, End, Fail}
+use Rattle.sv_flat.specs.Process.{ProcessState, Status, Waiting, Watches, Turn_in_slot, Start, Until, Todo, Do, Turn, Turns, Walk_elements, Leave, Put, Output, Spot, Cell, Variable_of, Effect, Remain, Enter, Write, Suspend, Resume_at, Update_at, Print_text, Keep_print, Finish_run, End, Fail}
 use Rattle.sv_flat.specs.Config.{Config, Clock as Clock_state, Monitor, numbered_from, starts, is_always_comb}
 use Rattle.sv_flat.specs.Opening.{empty_world}
-use Rattle.sv_built.specs.Built.{IsBuiltStmt, IsBuiltTarget}
+use Rattle.sv_built.specs.Built.{IsBuiltType, IsBuiltTarget, IsBuiltWatch, IsBuiltStmt, IsBuiltCall}
 
 -- ---- how much the processes weigh that stand somewhere, by any weights
 
@@ -92,13 +92,24 @@ pub record ArePlain (r : Regions) : Type 0 where
 
 -- ---- processes
 
--- what is left to run is of statements that are built, outside all activations
+-- an output of a call is copied to such targets
+abbrev pub IsPlainOutput : Output → Type 0
+IsPlainOutput o = AllByRecursion IsBuiltTarget o.targets
+
+-- what is left to run is of statements and calls that are built, in any scopes
 abbrev pub IsPlainTodo : Todo → Type 0
-IsPlainTodo (Do s cs outer hidden) = IsBuiltStmt s × (cs ≡ []) × (outer ≡ None) × (hidden ≡ None)
-IsPlainTodo (Turn s scope) = IsBuiltStmt s × (scope ≡ None)
-IsPlainTodo (Turns at n b scope) = scope ≡ None
-IsPlainTodo (Put at ts x scope) = AllByRecursion IsBuiltTarget ts × (scope ≡ None)
+IsPlainTodo (Do s cs outer hidden) = IsBuiltStmt s × AllByRecursion IsBuiltCall cs
+IsPlainTodo (Turn s scope) = IsBuiltStmt s
+IsPlainTodo (Turns at n b scope) = Unit {0}
+IsPlainTodo (Walk_elements s n scope) = IsBuiltStmt s
+IsPlainTodo (Leave at r) = AllByRecursion IsPlainOutput r.outputs
+IsPlainTodo (Put at ts x scope) = AllByRecursion IsBuiltTarget ts
 IsPlainTodo _ = ⊥
+
+-- a process that waits for a change waits for one of built event expressions
+abbrev pub AreAwaited : Status → Type 0
+AreAwaited (Waiting (Watches ws scope)) = AllByRecursion IsBuiltWatch ws
+AreAwaited s = Unit {0}
 
 -- whether a starter was not taken yet
 abbrev pub is_pending : List Process → List ProcessState → Bool
@@ -116,6 +127,7 @@ pub record IsStateOf (pending : Bool) (f : Process) (q : ProcessState) : Type 0 
   pub program : q.program ≡ None
   pub parent : q.parent ≡ None
   pub rest : AllByRecursion IsPlainTodo q.rest
+  pub awaits : AreAwaited q.latest
   pub held : pending ≡ true → is_always_comb f.kind ≡ true → q.latest ≡ Waiting Start
 
 -- the processes are those of the design
@@ -130,7 +142,6 @@ AreStates pending _ _ = ⊥
 pub record AreSound (d : Parts) (world : World) (clocks : List Clock_state) (monitor : Option Monitor) (regions : Regions) (future : List Event)
     (processes : List ProcessState) (running : Option ProcessId) : Type 0 where
   pub no_heap : world.heap ≡ empty_world.heap
-  pub no_activations : world.activations ≡ []
   pub no_clocks : clocks ≡ []
   pub no_monitor : monitor ≡ None
   pub plain : ArePlain regions
@@ -146,15 +157,22 @@ IsSound d c = AreSound d c.world c.clocks c.monitor c.regions c.future c.process
 -- ---- effects
 
 -- an element of an object, a driver of a net, or nothing
+abbrev pub IsCell : Spot → Type 0
+IsCell (Cell o i r) = Unit {0}
+IsCell Process.Nowhere = Unit {0}
+IsCell _ = ⊥
+
+-- such a spot, or a variable of an activation
 abbrev pub IsPlainSpot : Spot → Type 0
 IsPlainSpot (Cell o i r) = Unit {0}
+IsPlainSpot (Variable_of n i r) = Unit {0}
 IsPlainSpot Process.Nowhere = Unit {0}
 IsPlainSpot _ = ⊥
 
--- that the others of the slot had their turn, or a change
+-- that the others of the slot had their turn, or a change of built event expressions
 abbrev pub IsPlainUntil : Until → Type 0
 IsPlainUntil Turn_in_slot = Unit {0}
-IsPlainUntil (Watches ws scope) = scope ≡ None
+IsPlainUntil (Watches ws scope) = AllByRecursion IsBuiltWatch ws
 IsPlainUntil _ = ⊥
 
 -- all prints but `$monitor`
@@ -165,6 +183,7 @@ IsPlainPrint _ = Unit {0}
 -- an effect that a step of a built design may have
 abbrev pub IsPlainEffect : Effect → Type 0
 IsPlainEffect (Remain rest) = AllByRecursion IsPlainTodo rest
+IsPlainEffect (Enter ts around) = AllByRecursion IsBuiltType ts
 IsPlainEffect (Write s x) = IsPlainSpot s
 IsPlainEffect (Suspend u) = IsPlainUntil u
 IsPlainEffect (Resume_at t) = Unit {0}

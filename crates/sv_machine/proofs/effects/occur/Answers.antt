@@ -1,8 +1,12 @@
-use Rattle.std.proofs.Common.{rules, ◌≡◌, None, Some, refl, ap, subst, sym, arith, length, true}
+use Rattle.std.proofs.Common.{rules, ◌≡◌, Some, refl, ap, subst, sym, arith, length, true}
 use Rattle.std.specs.Prelude.{OnOk, get_or}
 use Rattle.sv_flat.specs.declared.process.Process.{Process}
 use Rattle.sv_flat.specs.Effects.{occurred}
-use Rattle.sv_sound.specs.Sound.{IsPlainEffect}
+use Rattle.std.specs.List.{AllByRecursion}
+use Rattle.sv_built.specs.Built.{IsBuiltType}
+use Rattle.sv_built.specs.Entered.{types_at}
+use Rattle.sv_assign.specs.Places.{spot_in}
+use Rattle.sv_sound.specs.Sound.{IsPlainEffect, IsPlainSpot}
 use Rattle.sv_sense.proofs.SenseLaws.{ok_given}
 use Rattle.sv_process.specs.declared.effect.Effect.{Effect as Own_effect}
 use Rattle.sv_process.specs.Effects.{effect_in}
@@ -12,7 +16,7 @@ use Rattle.sv_machine.specs.declared.line.Line.{Line}
 use Rattle.sv_machine.specs.Machine.{Does}
 use Rattle.sv_machine.specs.Wakes.{side_at}
 use Rattle.sv_machine.proofs.ReadyLaws.{side_is}
-use Rattle.sv_machine.proofs.OccurLaws.{runs_known, runs_absent, few_stand, write_does, turn_does, watch_does, resume_does, update_does, print_does, strobe_does, finish_does, fail_does, end_does}
+use Rattle.sv_machine.proofs.OccurLaws.{runs_known, made_count, enter_does, runs_absent, few_stand, write_does, turn_does, watch_does, resume_does, update_does, print_does, strobe_does, finish_does, fail_does, end_does}
 use Rattle.sv_machine.proofs.effects.occur.Goals as goal
 
 pub bounds-processes-process : goal.bounds-processes-process
@@ -38,8 +42,30 @@ returns-in-Write-clause-ok c =
     let d = c.args.design.now in
     let ls = c.args.lines.now.items in
     let m = c.args.machine.now in
-    subst (λ (e : Own_effect). OnOk c.write.result (Does d m c.write.new.machine (occurred d c.args.at c.args.process (effect_in d e)) ls ls)) (sym c.in-Write.is)
-    (ok_given c.write.result _ _ (λ h. write_does d c.requires.built c.args.at c.args.process m c.write.new.machine c.requires.running ls c.in-Write.target c.in-Write.value h) c.write.ensures.ok)
+    let plain : IsPlainSpot (spot_in c.in-Write.spot) = subst (λ (e : Own_effect). IsPlainEffect (effect_in d e)) c.in-Write.is c.requires.plain in
+    subst (λ (e : Own_effect). OnOk c.assign.result (Does d m c.assign.new.machine (occurred d c.args.at c.args.process (effect_in d e)) ls ls)) (sym c.in-Write.is)
+    (ok_given c.assign.result _ _ (λ h. write_does d c.requires.built c.args.at c.args.process m c.assign.new.machine c.requires.running ls (spot_in c.in-Write.spot) plain c.in-Write.value h) c.assign.ensures.ok)
+
+pub enter-requires-clause-known : goal.enter-requires-clause-known
+enter-requires-clause-known c =
+    let d = c.args.design.now in
+    let m = c.args.machine.now in
+    let k = runs_known d m c.requires.at c.args.process c.requires.running in
+    let e = made_count d m c.requires.at in
+    omega (arith, k, e)
+
+pub enter-requires-clause-built : goal.enter-requires-clause-built
+enter-requires-clause-built c = subst (λ (e : Own_effect). IsPlainEffect (effect_in c.args.design.now e)) c.in-Enter.is c.requires.plain
+
+pub returns-in-Enter-clause-ok : goal.returns-in-Enter-clause-ok
+returns-in-Enter-clause-ok c =
+    let d = c.args.design.now in
+    let ls = c.args.lines.now.items in
+    let m = c.args.machine.now in
+    let plain : AllByRecursion IsBuiltType (types_at d c.in-Enter.entered) = subst (λ (e : Own_effect). IsPlainEffect (effect_in d e)) c.in-Enter.is c.requires.plain in
+    subst (λ (e : Own_effect). OnOk c.enter.result (Does d m c.enter.new.machine (occurred d c.args.at c.args.process (effect_in d e)) ls ls)) (sym c.in-Enter.is)
+    (ok_given c.enter.result _ _
+    (λ h. enter_does d c.requires.built c.args.at c.args.process m c.enter.new.machine c.requires.running ls (types_at d c.in-Enter.entered) c.in-Enter.around plain h) c.enter.ensures.ok)
 
 pub returns-in-Turn-clause-ok : goal.returns-in-Turn-clause-ok
 returns-in-Turn-clause-ok c =
@@ -59,9 +85,8 @@ returns-in-Watch-clause-ok c =
     let ls = c.args.lines.now.items in
     let m = c.args.machine.now in
     let p = c.args.process in
-    let outside : c.in-Watch.scope ≡ None = subst (λ (e : Own_effect). IsPlainEffect (effect_in d e)) c.in-Watch.is c.requires.plain in
     subst (λ (e : Own_effect). OnOk c.watch.result (Does d m c.watch.new.machine (occurred d c.args.at p (effect_in d e)) ls ls)) (sym c.in-Watch.is)
-    (ok_given c.watch.result _ _ (λ h. watch_does d c.requires.built c.args.at p m c.watch.new.machine c.requires.running ls c.in-Watch.wait c.in-Watch.scope outside h) c.watch.ensures.ok)
+    (ok_given c.watch.result _ _ (λ h. watch_does d c.requires.built c.args.at p m c.watch.new.machine c.requires.running ls c.in-Watch.wait c.in-Watch.scope h) c.watch.ensures.ok)
 
 pub returns-in-ResumeAt-clause-ok : goal.returns-in-ResumeAt-clause-ok
 returns-in-ResumeAt-clause-ok c =

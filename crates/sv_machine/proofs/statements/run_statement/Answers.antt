@@ -1,22 +1,25 @@
-use Rattle.std.proofs.Common.{rules, ◌≡◌, ◌∙◌, List, refl, ap, subst, sym}
-use Rattle.std.specs.Prelude.{reverse, get_or, unwrap_or}
-use Rattle.sv_assign.specs.Seen.{view_in}
-use Rattle.sv_flat.specs.Process.{no_place}
-use Rattle.sv_flat.specs.Micro.{place_of_step}
-use Rattle.sv_process.specs.declared.frames.Frame.{Frame}
-use Rattle.sv_process.specs.Frames.{todos_of, scope_of_step}
+use Rattle.std.proofs.Common.{rules, arith, ◌≡◌, ◌∙◌, List, refl, ap, subst, sym}
+use Rattle.std.specs.Prelude.{reverse, get_or}
 use Rattle.std.specs.List.{AllByRecursion}
 use Rattle.std.specs.Vec.{with_item}
 use Rattle.sv_sound.specs.Sound.{IsPlainEffect}
 use Rattle.sv_process.specs.declared.effect.Effect.{Effect as Own_effect}
 use Rattle.sv_process.specs.Effects.{effects_in}
+use Rattle.sv_machine.specs.Steps.{effects_done}
 use Rattle.sv_sense.proofs.SenseLaws.{ok_given}
+use Rattle.sv_flat.specs.Process.{Effect}
 use Rattle.sv_flat.specs.Effects.{all_occurred}
-use Rattle.sv_flat.specs.Config.{unit_ticks}
 use Rattle.sv_machine.specs.declared.machine.Machine.{Machine}
 use Rattle.sv_machine.specs.Machine.{Does}
+use Rattle.sv_machine.proofs.OccurLaws.{runs_known, made_count}
 use Rattle.sv_machine.proofs.StepLaws.{TookStep, took_step, has_frames, reverse_twice, step_at, step_plain, step_makes}
 use Rattle.sv_machine.proofs.statements.run_statement.Goals as goal
+
+pub next-next-requires : goal.next-next-requires
+next-next-requires c =
+    let k = runs_known c.args.design.now c.args.machine.now c.requires.at c.args.process c.requires.running in
+    let e = made_count c.args.design.now c.args.machine.now c.requires.at in
+    omega (arith, k, e)
 
 pub index_mut-requires : goal.index_mut-requires
 index_mut-requires c = let k = has_frames c.args.design.now c.args.machine.now c.requires.at c.args.process c.requires.running in search rules
@@ -26,53 +29,48 @@ occur_all-done-requires-clause-at c =
     let d = c.args.design.now in
     let p = c.args.process in
     let m = c.args.machine.now in
-    let n : Machine = record m { processes = with_item m.processes p.0 c.step.new.frames; spare = c.step.new.spare } in
+    let n : Machine = record m { processes = with_item m.processes p.0 c.next_step.new.frames; spare = c.next_step.new.spare } in
     let none = c.index_mut.result.now in
     let is : none ≡ get_or m.processes.items p.0 none = search rules in
-    let u = c.unit_ticks.ensures ∙ ap unit_ticks c.scale.ensures in
-    let h : TookStep d p m n c.step.new.stepped (get_or m.processes.items p.0 none) c.step.new.frames c.step.new.out.items =
-    took_step d p m n c.step.new.stepped c.step.new.frames c.step.new.out.items none (has_frames d m c.requires.at p c.requires.running) refl (search rules)
-    (λ look q s e f. c.in_ok-step.ensures.does look q s (ap (λ (fs : List Frame). look (scope_of_step (todos_of d fs))) is ∙ e ∙ ap (view_in m.store m.time) (sym u)) (f ∙ ap (todos_of d) (sym is)))
-    (c.in_ok-step.ensures.at ∙ ap (λ (fs : List Frame). unwrap_or (place_of_step (todos_of d fs)) no_place) is)
-    (λ e. c.in_ok-step.ensures.held e ∙ ap (todos_of d) is) in
-    step_at d c.requires.built p m n c.requires.running c.step.new.stepped (get_or m.processes.items p.0 none) c.step.new.frames c.step.new.out.items h c.requires.at
+    let h : TookStep d p m n c.next_step.new.stepped (get_or m.processes.items p.0 none) c.next_step.new.frames c.next_step.new.out.items =
+    took_step d p m n c.next_step.new.stepped c.next_step.new.frames c.next_step.new.out.items none c.next-next.result (has_frames d m c.requires.at p c.requires.running) refl (search rules) is
+    c.next-next.ensures c.in_ok-next_step.ensures.does c.in_ok-next_step.ensures.at c.in_ok-next_step.ensures.held in
+    step_at d c.requires.built p m n c.requires.running c.next_step.new.stepped (get_or m.processes.items p.0 none) c.next_step.new.frames c.next_step.new.out.items h c.requires.at
 
 pub occur_all-done-requires-clause-plain : goal.occur_all-done-requires-clause-plain
 occur_all-done-requires-clause-plain c =
     let d = c.args.design.now in
     let p = c.args.process in
     let m = c.args.machine.now in
-    let n : Machine = record m { processes = with_item m.processes p.0 c.step.new.frames; spare = c.step.new.spare } in
+    let n : Machine = record m { processes = with_item m.processes p.0 c.next_step.new.frames; spare = c.next_step.new.spare } in
     let none = c.index_mut.result.now in
     let is : none ≡ get_or m.processes.items p.0 none = search rules in
-    let u = c.unit_ticks.ensures ∙ ap unit_ticks c.scale.ensures in
-    let h : TookStep d p m n c.step.new.stepped (get_or m.processes.items p.0 none) c.step.new.frames c.step.new.out.items =
-    took_step d p m n c.step.new.stepped c.step.new.frames c.step.new.out.items none (has_frames d m c.requires.at p c.requires.running) refl (search rules)
-    (λ look q s e f. c.in_ok-step.ensures.does look q s (ap (λ (fs : List Frame). look (scope_of_step (todos_of d fs))) is ∙ e ∙ ap (view_in m.store m.time) (sym u)) (f ∙ ap (todos_of d) (sym is)))
-    (c.in_ok-step.ensures.at ∙ ap (λ (fs : List Frame). unwrap_or (place_of_step (todos_of d fs)) no_place) is)
-    (λ e. c.in_ok-step.ensures.held e ∙ ap (todos_of d) is) in
-    subst (λ (es : List Own_effect). AllByRecursion IsPlainEffect (effects_in d es)) (sym (ap (reverse {A = Own_effect}) c.reverse.ensures.items ∙ reverse_twice c.step.new.out.items))
-    (step_plain d c.requires.built p m n c.requires.running c.step.new.stepped (get_or m.processes.items p.0 none) c.step.new.frames c.step.new.out.items h c.requires.at)
+    let h : TookStep d p m n c.next_step.new.stepped (get_or m.processes.items p.0 none) c.next_step.new.frames c.next_step.new.out.items =
+    took_step d p m n c.next_step.new.stepped c.next_step.new.frames c.next_step.new.out.items none c.next-next.result (has_frames d m c.requires.at p c.requires.running) refl (search rules) is
+    c.next-next.ensures c.in_ok-next_step.ensures.does c.in_ok-next_step.ensures.at c.in_ok-next_step.ensures.held in
+    let e : effects_in d (reverse c.enter_first.new.effects.items) ≡ effects_done d c.next_step.new.stepped.went c.next_step.new.out.items =
+    c.in_ok-enter_first.ensures d ∙ ap (effects_done d c.next_step.new.stepped.went) (ap (reverse {A = Own_effect}) c.reverse.ensures.items ∙ reverse_twice c.next_step.new.out.items) in
+    subst (AllByRecursion IsPlainEffect) (sym e)
+    (step_plain d c.requires.built p m n c.requires.running c.next_step.new.stepped (get_or m.processes.items p.0 none) c.next_step.new.frames c.next_step.new.out.items h c.requires.at)
 
 pub returns-clause-ok : goal.returns-clause-ok
 returns-clause-ok c =
     let d = c.args.design.now in
     let p = c.args.process in
     let m = c.args.machine.now in
-    let n : Machine = record m { processes = with_item m.processes p.0 c.step.new.frames; spare = c.step.new.spare } in
+    let n : Machine = record m { processes = with_item m.processes p.0 c.next_step.new.frames; spare = c.next_step.new.spare } in
     let none = c.index_mut.result.now in
     let is : none ≡ get_or m.processes.items p.0 none = search rules in
-    let u = c.unit_ticks.ensures ∙ ap unit_ticks c.scale.ensures in
-    let h : TookStep d p m n c.step.new.stepped (get_or m.processes.items p.0 none) c.step.new.frames c.step.new.out.items =
-    took_step d p m n c.step.new.stepped c.step.new.frames c.step.new.out.items none (has_frames d m c.requires.at p c.requires.running) refl (search rules)
-    (λ look q s e f. c.in_ok-step.ensures.does look q s (ap (λ (fs : List Frame). look (scope_of_step (todos_of d fs))) is ∙ e ∙ ap (view_in m.store m.time) (sym u)) (f ∙ ap (todos_of d) (sym is)))
-    (c.in_ok-step.ensures.at ∙ ap (λ (fs : List Frame). unwrap_or (place_of_step (todos_of d fs)) no_place) is)
-    (λ e. c.in_ok-step.ensures.held e ∙ ap (todos_of d) is) in
+    let h : TookStep d p m n c.next_step.new.stepped (get_or m.processes.items p.0 none) c.next_step.new.frames c.next_step.new.out.items =
+    took_step d p m n c.next_step.new.stepped c.next_step.new.frames c.next_step.new.out.items none c.next-next.result (has_frames d m c.requires.at p c.requires.running) refl (search rules) is
+    c.next-next.ensures c.in_ok-next_step.ensures.does c.in_ok-next_step.ensures.at c.in_ok-next_step.ensures.held in
     let l = c.occur_all-done.new.machine in
-    let at = c.step.new.stepped.at in
+    let at = c.next_step.new.stepped.at in
+    let e : effects_in d (reverse c.enter_first.new.effects.items) ≡ effects_done d c.next_step.new.stepped.went c.next_step.new.out.items =
+    c.in_ok-enter_first.ensures d ∙ ap (effects_done d c.next_step.new.stepped.went) (ap (reverse {A = Own_effect}) c.reverse.ensures.items ∙ reverse_twice c.next_step.new.out.items) in
     ok_given c.occur_all-done.result _ _
-    (λ k. (step_makes d c.requires.built p m n c.requires.running c.step.new.stepped (get_or m.processes.items p.0 none) c.step.new.frames c.step.new.out.items h l c.args.lines.now.items c.occur_all-done.new.lines.items
-    (subst (λ (es : List Own_effect). Does d n l (all_occurred d at p (effects_in d es)) c.args.lines.now.items c.occur_all-done.new.lines.items) (ap (reverse {A = Own_effect}) c.reverse.ensures.items ∙ reverse_twice c.step.new.out.items) k)).makes)
+    (λ k. (step_makes d c.requires.built p m n c.requires.running c.next_step.new.stepped (get_or m.processes.items p.0 none) c.next_step.new.frames c.next_step.new.out.items h l c.args.lines.now.items c.occur_all-done.new.lines.items
+    (subst (λ (es : List Effect). Does d n l (all_occurred d at p es) c.args.lines.now.items c.occur_all-done.new.lines.items) e k)).makes)
     c.occur_all-done.ensures.ok
 
 pub returns-clause-lines : goal.returns-clause-lines
@@ -80,18 +78,17 @@ returns-clause-lines c =
     let d = c.args.design.now in
     let p = c.args.process in
     let m = c.args.machine.now in
-    let n : Machine = record m { processes = with_item m.processes p.0 c.step.new.frames; spare = c.step.new.spare } in
+    let n : Machine = record m { processes = with_item m.processes p.0 c.next_step.new.frames; spare = c.next_step.new.spare } in
     let none = c.index_mut.result.now in
     let is : none ≡ get_or m.processes.items p.0 none = search rules in
-    let u = c.unit_ticks.ensures ∙ ap unit_ticks c.scale.ensures in
-    let h : TookStep d p m n c.step.new.stepped (get_or m.processes.items p.0 none) c.step.new.frames c.step.new.out.items =
-    took_step d p m n c.step.new.stepped c.step.new.frames c.step.new.out.items none (has_frames d m c.requires.at p c.requires.running) refl (search rules)
-    (λ look q s e f. c.in_ok-step.ensures.does look q s (ap (λ (fs : List Frame). look (scope_of_step (todos_of d fs))) is ∙ e ∙ ap (view_in m.store m.time) (sym u)) (f ∙ ap (todos_of d) (sym is)))
-    (c.in_ok-step.ensures.at ∙ ap (λ (fs : List Frame). unwrap_or (place_of_step (todos_of d fs)) no_place) is)
-    (λ e. c.in_ok-step.ensures.held e ∙ ap (todos_of d) is) in
+    let h : TookStep d p m n c.next_step.new.stepped (get_or m.processes.items p.0 none) c.next_step.new.frames c.next_step.new.out.items =
+    took_step d p m n c.next_step.new.stepped c.next_step.new.frames c.next_step.new.out.items none c.next-next.result (has_frames d m c.requires.at p c.requires.running) refl (search rules) is
+    c.next-next.ensures c.in_ok-next_step.ensures.does c.in_ok-next_step.ensures.at c.in_ok-next_step.ensures.held in
     let l = c.occur_all-done.new.machine in
-    let at = c.step.new.stepped.at in
+    let at = c.next_step.new.stepped.at in
+    let e : effects_in d (reverse c.enter_first.new.effects.items) ≡ effects_done d c.next_step.new.stepped.went c.next_step.new.out.items =
+    c.in_ok-enter_first.ensures d ∙ ap (effects_done d c.next_step.new.stepped.went) (ap (reverse {A = Own_effect}) c.reverse.ensures.items ∙ reverse_twice c.next_step.new.out.items) in
     ok_given c.occur_all-done.result _ _
-    (λ k. (step_makes d c.requires.built p m n c.requires.running c.step.new.stepped (get_or m.processes.items p.0 none) c.step.new.frames c.step.new.out.items h l c.args.lines.now.items c.occur_all-done.new.lines.items
-    (subst (λ (es : List Own_effect). Does d n l (all_occurred d at p (effects_in d es)) c.args.lines.now.items c.occur_all-done.new.lines.items) (ap (reverse {A = Own_effect}) c.reverse.ensures.items ∙ reverse_twice c.step.new.out.items) k)).adds)
+    (λ k. (step_makes d c.requires.built p m n c.requires.running c.next_step.new.stepped (get_or m.processes.items p.0 none) c.next_step.new.frames c.next_step.new.out.items h l c.args.lines.now.items c.occur_all-done.new.lines.items
+    (subst (λ (es : List Effect). Does d n l (all_occurred d at p es) c.args.lines.now.items c.occur_all-done.new.lines.items) e k)).adds)
     c.occur_all-done.ensures.ok

@@ -1,4 +1,4 @@
-use Rattle.std.proofs.Common.{ℕ, ◌≡◌, ◌∙◌, Bool, List, Option, ap, subst, sym, refl, arith, length}
+use Rattle.std.proofs.Common.{ℕ, ◌≡◌, ◌∙◌, Bool, List, Option, None, ap, subst, sym, refl, arith, length}
 use Rattle.std.specs.Prelude.{sum_by}
 use Rattle.std.specs.List.{AllByRecursion}
 use Rattle.sv_value.specs.declared.number.ProcessId.{ProcessId}
@@ -15,7 +15,7 @@ pub make_ready-done-requires-clause-known : goal.make_ready-done-requires-clause
 make_ready-done-requires-clause-known c =
     let d = c.args.design.now in
     let u = c.unit_ticks-unit.result in
-    let t : Option Wait → Bool = fires_at d (view_before c.args.overwritten.now c.args.store.now c.args.time u) (view_in c.args.store.now c.args.time u) in
+    let t : Option Wait → Bool = fires_at d (view_before c.args.overwritten.now c.args.store.now c.args.activations.now.activations c.args.time u None) (view_in c.args.store.now c.args.activations.now.activations c.args.time u None) in
     let e : c.deref.result.now ≡ woken_from t 0 c.args.sense.now.waits = c.deref.ensures.value ∙ c.in_ok-fire.ensures.woken in
     let n = c.requires.covers.waits_count in
     subst (λ (ps : List ProcessId). AllByRecursion (IsKnown (length d.processes)) ps) (sym e)
@@ -25,7 +25,7 @@ pub make_ready-done-requires-clause-weights : goal.make_ready-done-requires-clau
 make_ready-done-requires-clause-weights c = λ w.
     let d = c.args.design.now in
     let u = c.unit_ticks-unit.result in
-    let t : Option Wait → Bool = fires_at d (view_before c.args.overwritten.now c.args.store.now c.args.time u) (view_in c.args.store.now c.args.time u) in
+    let t : Option Wait → Bool = fires_at d (view_before c.args.overwritten.now c.args.store.now c.args.activations.now.activations c.args.time u None) (view_in c.args.store.now c.args.activations.now.activations c.args.time u None) in
     let e : c.deref.result.now ≡ woken_from t 0 c.args.sense.now.waits = c.deref.ensures.value ∙ c.in_ok-fire.ensures.woken in
     let s = ap (sum_by w) e in
     let k = woken_weight t refl w 0 c.args.sense.now.waits in
@@ -35,7 +35,7 @@ make_ready-done-requires-clause-weights c = λ w.
 pub returns : goal.returns
 returns c =
     let d = c.args.design.now in
-    let v : ℕ → Option Wait → Bool = λ u. fires_at d (view_before c.args.overwritten.now c.args.store.now c.args.time u) (view_in c.args.store.now c.args.time u) in
+    let v : ℕ → Option Wait → Bool = λ u. fires_at d (view_before c.args.overwritten.now c.args.store.now c.args.activations.now.activations c.args.time u None) (view_in c.args.store.now c.args.activations.now.activations c.args.time u None) in
     let is = c.unit_ticks-unit.ensures ∙ ap unit_ticks c.scale.ensures in
     let t = v c.unit_ticks-unit.result in
     let e : c.deref.result.now ≡ woken_from t 0 c.args.sense.now.waits = c.deref.ensures.value ∙ c.in_ok-fire.ensures.woken in

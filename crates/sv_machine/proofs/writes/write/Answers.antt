@@ -18,7 +18,7 @@ returns-in-None-clause-ok c =
     let n : Machine = record m { store = c.overwrite.new.store } in
     let told : (o : ObjId) (j : ℕ) → value_at n.store o j ≡ value_at m.store o j =
     subst (λ (r : Option Overwritten). IfNone r ((o : ObjId) (j : ℕ) → value_at n.store o j ≡ value_at m.store o j)) c.in-None.is c.in_ok-overwrite.ensures.none in
-    wrote_none c.args.design.now m n c.args.target.now c.args.value (record { is = refl; wrote = c.in_ok-overwrite.ensures.wrote }) c.requires.built told refl refl
+    wrote_none c.args.design.now c.requires.built m n c.args.target c.args.value (record { is = refl; wrote = c.in_ok-overwrite.ensures.wrote }) told refl refl
 
 pub returns-in-Some-clause-ok : goal.returns-in-Some-clause-ok
 returns-in-Some-clause-ok c =
@@ -27,5 +27,5 @@ returns-in-Some-clause-ok c =
     let told : (o : ObjId) (j : ℕ) → value_at m.store o j ≡ object_before c.in-Some.overwritten n.store o j =
     subst (λ (r : Option Overwritten). IfSome r (λ w. (o : ObjId) (j : ℕ) → value_at m.store o j ≡ object_before w n.store o j)) c.in-Some.is c.in_ok-overwrite.ensures.some in
     ok_given c.wake.result _ _
-    (λ h. wrote_some c.args.design.now m n c.args.target.now c.args.value (record { is = refl; wrote = c.in_ok-overwrite.ensures.wrote }) c.in-Some.overwritten told h)
+    (λ h. wrote_some c.args.design.now c.requires.built m n c.args.target c.args.value (record { is = refl; wrote = c.in_ok-overwrite.ensures.wrote }) c.in-Some.overwritten told h)
     c.wake.ensures

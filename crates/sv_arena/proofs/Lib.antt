@@ -1,0 +1,4 @@
+pub mod ChunkLaws
+pub mod PlaceLaws
+pub mod TableLaws
+pub mod MadeLaws

@@ -1,0 +1,10 @@
+use Rattle.std.proofs.Common.{◌≡◌, length}
+use Rattle.sv_flat.specs.Statements.Jumps.{after_return}
+use Rattle.sv_process.specs.Frames.{todos_of}
+use Rattle.sv_process.proofs.returns.leave_body.Given as goal
+
+abbrev pub invariant-loop-frame : goal.invariant-loop-frame
+invariant-loop-frame l = after_return (todos_of l.design l.frames) ≡ after_return (todos_of l.design l.initial.frames)
+
+abbrev pub decreases-loop-frame : goal.decreases-loop-frame
+decreases-loop-frame l = length l.frames
