@@ -81,22 +81,3 @@ impl Shelf for GoodShelf {
         result
     }
 }
-
-#[cfg(test)]
-mod tests {
-    use super::*;
-    use std::test::Fail;
-
-    #[test]
-    fn gives_files_and_empty_ones(rt: HostRuntime) -> Result<(), Fail> {
-        let alloc = rt.alloc();
-        let mut shelf = GoodShelf::new(alloc);
-        shelf.add("a", b"first")?;
-        shelf.add("a", b"second")?;
-        assert_eq!(rt; shelf.fetch(alloc, "a", 5)?.as_slice(), b"first".as_slice());
-        assert_eq!(rt; shelf.fetch(alloc, "a", 4).err(), Some(Fetch::Long));
-        assert_eq!(rt; shelf.taken, 5);
-        assert_eq!(rt; shelf.fetch(alloc, "b", 4)?.len(), 0);
-        Ok(())
-    }
-}

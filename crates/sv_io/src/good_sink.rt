@@ -54,17 +54,3 @@ impl Sink for GoodSink {
         }
     }
 }
-
-#[cfg(test)]
-mod tests {
-    use super::*;
-
-    #[test]
-    fn keeps_all_pieces(rt: HostRuntime) {
-        let mut sink = GoodSink::new(rt.alloc());
-        assert_eq!(rt; sink.put(b"ab"), Ok(()));
-        assert_eq!(rt; sink.put(b""), Ok(()));
-        assert_eq!(rt; sink.put(b"c"), Ok(()));
-        assert_eq!(rt; sink.bytes(), b"abc".as_slice());
-    }
-}

@@ -142,25 +142,3 @@ impl Shelf for MemShelf {
         result
     }
 }
-
-#[cfg(test)]
-mod tests {
-    use super::*;
-    use std::test::Fail;
-
-    #[test]
-    fn fails_at_its_calls_and_at_absent_names(rt: HostRuntime) -> Result<(), Fail> {
-        let alloc = rt.alloc();
-        let mut shelf = MemShelf::new(alloc);
-        shelf.add("a", b"text")?;
-        shelf.fail_at(2, 3)?;
-        assert_eq!(rt; shelf.fetch(alloc, "a", 4)?.as_slice(), b"text".as_slice());
-        assert_eq!(rt; shelf.fetch(alloc, "a", 4).err(), Some(Fetch::Failed));
-        assert_eq!(rt; shelf.taken, 3);
-        assert_eq!(rt; shelf.fetch(alloc, "a", 3).err(), Some(Fetch::Long));
-        assert_eq!(rt; shelf.fetch(alloc, "b", 4).err(), Some(Fetch::Failed));
-        assert_eq!(rt; shelf.faults, 2);
-        assert_eq!(rt; shelf.failed.as_deref(), Some(b"b".as_slice()));
-        Ok(())
-    }
-}

@@ -92,23 +92,3 @@ impl Sink for MemSink {
         Err(SinkError::Failed)
     }
 }
-
-#[cfg(test)]
-mod tests {
-    use super::*;
-    use std::test::Fail;
-
-    #[test]
-    fn fails_at_its_calls(rt: HostRuntime) -> Result<(), Fail> {
-        let mut sink = MemSink::new(rt.alloc());
-        sink.fail_at(2, 1)?;
-        sink.fail_at(4, 9)?;
-        assert_eq!(rt; sink.put(b"ab"), Ok(()));
-        assert_eq!(rt; sink.put(b"cd"), Err(SinkError::Failed));
-        assert_eq!(rt; sink.put(b"ef"), Ok(()));
-        assert_eq!(rt; sink.put(b"gh"), Err(SinkError::Failed));
-        assert_eq!(rt; sink.bytes(), b"abcefgh".as_slice());
-        assert_eq!(rt; sink.faults, 2);
-        Ok(())
-    }
-}

@@ -250,6 +250,3 @@ fn drive_at(slots: &mut Vec<Slot>, o: ObjId, driver: u32, v: Bits) -> (Bits, Bit
     let slot = &mut slots[o.0 as usize];
     slot.drive(driver, v)
 }
-
-#[cfg(test)]
-mod tests;
