@@ -6,8 +6,8 @@ use Rattle.sv_value.specs.declared.schedule.Range.{Range}
 use Rattle.sv_value.specs.declared.val.Val.{Val}
 use Rattle.sv_flat.specs.State.{Activation, Name, activation, activation_out}
 use Rattle.sv_flat.specs.Effects.Writes.{variable_over}
-use Rattle.sv_arena.specs.Made.{Made, entered, next_name}
-use Rattle.sv_arena.specs.Table.{IsFound, names_of, lengths_of, place_of}
+use Rattle.sv_arena.specs.Made.{Made, entered, next_name, with_process}
+use Rattle.sv_arena.specs.Table.{IsFound, names_of, lengths_of, place_in, place_of}
 use Rattle.sv_arena.proofs.PlaceLaws.{some_same, get_is, get_map, get_or-is, get_within, map_set, map_set-any}
 use Rattle.sv_arena.proofs.TableLaws.{activation_over, found_more, named_by, over_none, over_one, told_named, told_unnamed}
 
@@ -176,3 +176,27 @@ made_empty as' rows n k none is low high =
   where
     same : k ≡ n
     same = omega (arith, low, high)
+
+-- ---- a process more
+
+-- what is found is what was found
+place_wider : (rows : List (List ℕ)) (p i : ℕ) → place_in (slice_get (rows ++ [] ∷ []) p) i ≡ place_in (slice_get rows p) i
+place_wider [] zero i = refl
+place_wider [] (suc p) i = refl
+place_wider (r ∷ rows) zero i = refl
+place_wider (r ∷ rows) (suc p) i = place_wider rows p i
+
+pub found_wider : (names : List Name) (rows wider : List (List ℕ)) (row : List ℕ) → IsFound names rows → row ≡ [] → wider ≡ rows ++ row ∷ [] → IsFound names wider
+found_wider names rows wider row h none is =
+    subst (IsFound names) (sym (is ∙ ap (λ (r : List ℕ). rows ++ r ∷ []) none))
+    (record {
+      found = λ k n g. place_wider rows n.process.0 n.place ∙ h.found k n g;
+      named = λ n k g. h.named n k (sym (place_wider rows n.process.0 n.place) ∙ g);
+    })
+
+pub made_wider : (as' : List Activation) (rows wider : List (List ℕ)) (row : List ℕ) (m : Made) → made_in as' rows ≡ m → row ≡ [] → wider ≡ rows ++ row ∷ []
+    → made_in as' wider ≡ with_process m
+made_wider as' rows wider row m e none is =
+    ap (made_in as') (is ∙ ap (λ (r : List ℕ). rows ++ r ∷ []) none)
+    ∙ ap (λ (ns : List ℕ). record { activations = as'; made = ns }) (map_push (λ r. length r) rows [])
+    ∙ ap with_process e

@@ -14,6 +14,10 @@ pub record Made : Type 0 where
 abbrev pub next_name : Made → ProcessId → Name
 next_name m p = record { process = p; place = slice_index_or m.made p.0 0 }
 
+-- a process more, which made none yet
+abbrev pub with_process : Made → Made
+with_process m = record m { made = m.made ++ 0 ∷ [] }
+
 -- an activation more
 abbrev pub entered : Made → ProcessId → (around : Option Name) → List Val → Made
 entered m p around values =

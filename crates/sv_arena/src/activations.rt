@@ -3,7 +3,7 @@ ghost use Rattle.std.specs.Prelude.{◌≡◌, ◌<◌, ◌^◌, ◌∷◌, ◌+
 ghost use Rattle.std.specs.Option.{option_copied};
 ghost use Rattle.sv_flat.specs.State.{activation, activation_out, name_in, variable_of};
 ghost use Rattle.sv_flat.specs.Effects.Writes.{variable_over};
-ghost use Rattle.sv_arena.specs.Made.{entered, next_name};
+ghost use Rattle.sv_arena.specs.Made.{entered, next_name, with_process};
 ghost use Rattle.sv_arena.specs.Table.{place_of};
 
 use crate::Name;
@@ -50,6 +50,15 @@ impl Activations {
             activations: Arena::new(alloc),
             by_process,
         })
+    }
+
+    /// A process more, behind the others, which made none yet.
+    pub fn add_process(&mut self, alloc: Global) -> Result<(), NoMemory>
+        ensures ok { OnOk result (self.new ≡ with_process self.old) }
+        ensures err { OnErr result (self.new ≡ self.old) }
+    {
+        self.by_process.push(Row::new(alloc))?;
+        Ok(())
     }
 
     /// The name that the next activation of a process gets.

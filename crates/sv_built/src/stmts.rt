@@ -77,8 +77,11 @@ fn is_built_form(form: &Form) -> bool
         Form::Break => true,
         Form::Continue => true,
         Form::Finish => true,
+        Form::WaitFork => true,
+        Form::DisableFork => true,
         Form::ForeachElement { .. } => true,
         Form::Block { locals, .. } => are_built_variables(locals.as_slice()),
+        Form::Fork { locals, .. } => are_built_variables(locals.as_slice()),
         Form::Assign { targets, value } => {
             are_built_targets(targets.as_slice()) && is_built_expr(value)
         }

@@ -12,25 +12,25 @@ use Rattle.sv_flat.specs.declared.stmt.Form.{Form}
 use Rattle.sv_flat.specs.declared.stmt.Form.TheVariants as form
 use Rattle.sv_flat.specs.declared.process.Process.{Process}
 use Rattle.sv_flat.specs.declared.design.Parts.{Parts}
-use Rattle.sv_flat.specs.Process.{ProcessState, Todo, Do, Turn, Start_children, Effect, Spawn, Await_children, End_descendants, Exit_program, End}
+use Rattle.sv_flat.specs.Process.{ProcessState, Todo, Do, Turn, Effect, Exit_program, End}
 use Rattle.sv_flat.specs.Config.{Config, process_at, first_process, side_of, side_in, seen}
-use Rattle.sv_flat.specs.Micro.{micro}
 use Rattle.sv_flat.specs.Laws.{IsReached, DoesStep, MeetsActivations, SameReach, SameStep, Frames, all_applied, effects_of, step_effects, place_in, step_before_wakes}
 use Rattle.sv_built.specs.Built.{IsBuiltProcess, IsBuilt, IsBuiltCallForm, IsBuiltCall, IsBuiltForm}
 use Rattle.sv_sound.specs.Sound.{IsSound, IsPlainTodo, IsPlainEffect}
 use Rattle.sv_sound.proofs.Weights.{all_at}
-use Rattle.sv_sound.proofs.EffectSound.{found}
+use Rattle.sv_sound.proofs.Changes.{plain_at}
 use Rattle.sv_sound.proofs.MicroPlain.{micro_plain}
 use Rattle.sv_sound.proofs.Reached.{reached_sound}
 use Rattle.sv_frame.specs.Framed.{IsFramed}
 use Rattle.sv_frame.proofs.Masks.{states_same}
 use Rattle.sv_frame.proofs.Alike.{Alike, same_step}
-use Rattle.sv_frame.proofs.Effects.{HasBody, IsFramedEffect, Outcome, all_outcome}
+use Rattle.sv_frame.proofs.Outcomes.{IsOfNoProgram, IsFramedEffect, Outcome, all_outcome}
 use Rattle.sv_frame.proofs.Heads.{micro_same}
 use Rattle.sv_frame.proofs.Home.{head_same}
-use Rattle.sv_frame.proofs.MicroHome.{IsFramedCall, IsFramedForm, IsFramedTodo, micro_home}
-use Rattle.sv_frame.proofs.Homes.{AllHome, RunsHome, sides_of, own_side}
-use Rattle.sv_frame.proofs.Runs.{begins_with, legal_home}
+use Rattle.sv_frame.proofs.MicroHome.{IsFramedCall, IsFramedForm, IsFramedTodo}
+use Rattle.sv_frame.proofs.StepHome.{micro_home}
+use Rattle.sv_frame.proofs.Homes.{AllHome, RunsHome, own_side}
+use Rattle.sv_frame.proofs.Runs.{IsHomeOf, legal_home}
 
 -- ---- two configurations with equal reach, where what is left to run stands in the bodies of the side
 
@@ -48,8 +48,9 @@ module _ (d : Parts) (p : ProcessId) (c e : Config) (same : SameReach d (side_of
           micro_same d (seen d c) (seen d e) p q (head_same d q.side c e here ss home.are home.around q.rest (home.each p q is))
 
   -- equal effects, and after them an equal step, or the fault that depends on all activations
-  pub frames : AllByRecursion (IsFramedEffect (first_process d p)) (step_effects d p c) → DoesStep p c → DoesStep p e → Frames d p c e
-  frames framed runs ran = record { effects = effects_same; outcome = by_outcome outcome }
+  pub frames : IsBuilt d → AllByRecursion (IsFramedEffect (first_process d p)) (step_effects d p c) → AllByRecursion IsPlainEffect (step_effects d p c) → IsSound d c → IsSound d e
+      → DoesStep p c → DoesStep p e → Frames d p c e
+  frames b framed plain sound sound_too runs ran = record { effects = effects_same; outcome = by_outcome outcome }
     where
       no_fault : (o u : Option RunFault) → IsNone o → IsNone u → o ≡ u
       no_fault None None h k = refl
@@ -66,7 +67,7 @@ module _ (d : Parts) (p : ProcessId) (c e : Config) (same : SameReach d (side_of
       outcome =
           subst (λ o. Outcome d s p c e (step_before_wakes d p c) (all_applied d (place_in o) p (step_effects d p e) e)) own_state
           (subst (λ xs. Outcome d s p c e (step_before_wakes d p c) (all_applied d (place_in (process_at c p)) p xs e)) effects_same
-          (all_outcome d s (place_in (process_at c p)) p (step_effects d p c) framed c e alike))
+          (all_outcome d s (place_in (process_at c p)) p b (step_effects d p c) framed plain c e alike sound sound_too))
 
       by_outcome : Outcome d s p c e (step_before_wakes d p c) (step_before_wakes d p e)
           → MeetsActivations (step_before_wakes d p c) ⊎ (MeetsActivations (step_before_wakes d p e) ⊎ SameStep d s c e (step_before_wakes d p c) (step_before_wakes d p e))
@@ -86,44 +87,43 @@ calls_framed (c ∷ cs) h = (call_framed c.form h.0, calls_framed cs h.1)
 
 form_framed : (f : Form) → IsBuiltForm f → IsFramedForm f
 form_framed (form.Call c) h = call_framed c.form h
-form_framed (form.Fork ts initializers children join) h = absurd h
 form_framed f h = tt
 
 todo_framed : (t : Todo) → IsPlainTodo t → IsFramedTodo t
 todo_framed (Do t cs outer hidden) h = (form_framed t.form h.0.built, calls_framed cs h.1)
 todo_framed (Turn t scope) h = (form_framed t.form h.built, calls_framed t.calls h.calls)
-todo_framed (Start_children at cs j scope) h = absurd h
 todo_framed t h = tt
 
 todos_framed : (ts : List Todo) → AllByRecursion IsPlainTodo ts → AllByRecursion IsFramedTodo ts
 todos_framed [] h = tt
 todos_framed (t ∷ ts) h = (todo_framed t h.0, todos_framed ts h.1)
 
-effect_framed : (f : Option Process) → HasBody f → (x : Effect) → IsPlainEffect x → IsFramedEffect f x
-effect_framed f b (Spawn rs scope k) h = absurd h
-effect_framed f b Await_children h = absurd h
-effect_framed f b End_descendants h = absurd h
+effect_framed : (f : Option Process) → IsOfNoProgram f → (x : Effect) → IsPlainEffect x → IsFramedEffect f x
 effect_framed f b Exit_program h = absurd h
 effect_framed f b End h = b
 effect_framed f b x h = tt
 
-effects_framed : (f : Option Process) → HasBody f → (xs : List Effect) → AllByRecursion IsPlainEffect xs → AllByRecursion (IsFramedEffect f) xs
+effects_framed : (f : Option Process) → IsOfNoProgram f → (xs : List Effect) → AllByRecursion IsPlainEffect xs → AllByRecursion (IsFramedEffect f) xs
 effects_framed f b [] h = tt
 effects_framed f b (x ∷ xs) h = (effect_framed f b x h.0, effects_framed f b xs h.1)
 
 module _ (d : Parts) (b : IsBuilt d) where
-  runs_home : (c : Config) → IsReached d c → AllHome d (sides_of d) c → RunsHome d (sides_of d) (begins_with d) c
-  runs_home c reached home p q r is =
-      let k = found d c (reached_sound d b c reached) p q is in
-      micro_home d (sides_of d) q.side (seen d c) p q (own_side d (sides_of d) (begins_with d) c home p q is) (home.each p q is) (todos_framed q.rest k.state.rest)
+  runs_home : (c : Config) → IsReached d c → (k : IsHomeOf d c) → RunsHome d k.all k.begins c
+  runs_home c reached k p q r is =
+      let plain = (plain_at d c (reached_sound d b c reached) p q is).rest in
+      micro_home d k.all q.side (seen d c) p q (own_side d k.all k.begins c k.home p q is) (k.home.each p q is) (todos_framed q.rest plain)
 
-  step_framed : (c : Config) → IsSound d c → (p : ProcessId) (o : Option ProcessState) → process_at c p ≡ o → AllByRecursion (IsFramedEffect (first_process d p)) (effects_of d p c o)
-  step_framed c h p None is = tt
-  step_framed c h p (Some q) is =
-      let k = found d c h p q is in
-      let built : IsBuiltProcess k.process = all_at IsBuiltProcess d.processes p.0 k.process k.at b.each_process in
-      effects_framed (first_process d p) (record { process = k.process; is = k.at; of_module = built.of_module }) (micro d (seen d c) p q) (micro_plain d b (seen d c) p q k.state.rest)
+  no_program : (p : ProcessId) (o : Option Process) → first_process d p ≡ o → IsOfNoProgram o
+  no_program p None is = tt
+  no_program p (Some f) is = (all_at IsBuiltProcess d.processes p.0 f is b.each_process).of_module
+
+  step_plain : (c : Config) → IsSound d c → (p : ProcessId) (o : Option ProcessState) → process_at c p ≡ o → AllByRecursion IsPlainEffect (effects_of d p c o)
+  step_plain c h p None is = tt
+  step_plain c h p (Some q) is = micro_plain d b (seen d c) p q (plain_at d c h p q is).rest
 
   pub built_framed : IsFramed d
   built_framed p c e reached too runs ran same =
-      frames d p c e same (sides_of d) (legal_home d runs_home c reached.0 reached.1) (step_framed c (reached_sound d b c reached) p (process_at c p) refl) runs ran
+      let k = legal_home d runs_home c reached.0 reached.1 in
+      let sound = reached_sound d b c reached in
+      let plain = step_plain c sound p (process_at c p) refl in
+      frames d p c e same k.all k.home b (effects_framed (first_process d p) (no_program p (first_process d p) refl) (step_effects d p c) plain) plain sound (reached_sound d b e too) runs ran

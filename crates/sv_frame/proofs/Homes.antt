@@ -1,6 +1,6 @@
 -- Each step leaves what the processes have still to run in the bodies of their sides.
 use Rattle.std.proofs.Common.{ℕ, zero, suc, ◌≡◌, ◌+◌, List, [], ◌∷◌, ◌++◌, Option, None, Some, Bool, true, false, cond, refl, ap, subst, sym, ◌∙◌, map, inl, inr, slice_get, slice_set, remove}
-use Rattle.std.specs.Prelude.{◌⊎◌, Result, Ok, Err, option_map, unwrap_or, is_some, ◌==◌, ◌&&◌, not, length, nat_lt, ◌^◌}
+use Rattle.std.specs.Prelude.{◌⊎◌, Result, Ok, Err, option_map, is_some, ◌==◌, ◌&&◌, not, length, nat_lt, ◌^◌}
 use Rattle.std.specs.List.{AllByRecursion}
 use Rattle.std.proofs.lemmas.Option.{slice_get-map}
 use Rattle.sv_value.specs.declared.number.ProcessId.{ProcessId}
@@ -10,13 +10,13 @@ use Rattle.sv_value.specs.declared.place.FaultKind.{FaultKind}
 use Rattle.sv_value.specs.declared.val.Val.{Val}
 use Rattle.sv_value.specs.declared.val.Val.TheVariants as val
 use Rattle.sv_value.specs.declared.schedule.Side.{Side}
-use Rattle.sv_value.specs.declared.schedule.Side.TheVariants.{Active, Reactive}
+use Rattle.sv_value.specs.declared.schedule.Side.TheVariants.{Reactive}
 use Rattle.sv_value.specs.declared.schedule.Job.{Job}
 use Rattle.sv_value.specs.declared.schedule.Job.TheVariants as job
 use Rattle.sv_value.specs.declared.schedule.Update.{Update}
 use Rattle.sv_value.specs.Vector.{Vector}
 use Rattle.sv_value.specs.Waiting.{Woken, served, granted}
-use Rattle.sv_value.specs.Regions.{set_of, with_set, pickable}
+use Rattle.sv_value.specs.Regions.{set_of, with_set}
 use Rattle.sv_flat.specs.declared.clocking.Signal.{Signal}
 use Rattle.sv_flat.specs.declared.clocking.Input.{Input}
 use Rattle.sv_flat.specs.declared.process.Process.{Process}
@@ -36,13 +36,13 @@ use Rattle.sv_value.specs.declared.number.ObjId.{ObjId}
 use Rattle.sv_value.specs.declared.schedule.Range.{Range}
 use Rattle.sv_value.specs.declared.place.FaultKind.TheVariants as fault
 use Rattle.sv_flat.specs.Effects.Creation.{entered, fresh_values}
-use Rattle.sv_flat.specs.Micro.{micro, place_of_step}
-use Rattle.sv_flat.specs.Effects.{applied, with_world, world_after, scheduled_after, made_by, handed, exited, after_change, write_occurred, occurred, woken_by_effect, clocks_from, all_occurred, may_go_on}
+use Rattle.sv_flat.specs.Micro.{micro}
+use Rattle.sv_flat.specs.Effects.{applied, with_world, world_after, scheduled_after, made_by, handed, exited, after_change, write_occurred, occurred, woken_by_effect, clocks_from}
 use Rattle.sv_flat.specs.Effects.Writes.{Worlded, stored_over, changed_at, value_over, variable_over}
 use Rattle.sv_flat.specs.Effects.Scheduling.{suspended, update_scheduled, may_come, drive_update, drive_scheduled, clock_at, drove, awaiting, kept_print, clocking_of}
 use Rattle.sv_flat.specs.Effects.Ends.{ended, all_ended, at_end, program_ended, program_in, program_checked, finished_if_over, living_children, descendants, joined, is_ended, same_program}
 use Rattle.sv_flat.specs.Clocks.{new_samples, sample_written, samples_written, with_fewer, updated_waits, waiters_woken, kept_scheduled, kept_drives, clock_updated}
-use Rattle.sv_flat.specs.Steps.{Kind, Begin_slot, Take_process, Run_statement, Take_job, Move_region, End_slot, Next_time, acting, front, after, effect, counted, numbers_used, side_after, taken_at, combs_started, held_combs, is_starter, waiting_starters, statement_ran, ran_state, job_taken, job_done, job_spot, updates_written, strobe_text, strobe_printed, strobes_printed, monitor_tried, monitor_printed, is_due, closed, slot_ended}
+use Rattle.sv_flat.specs.Steps.{Kind, Begin_slot, Take_process, Run_statement, Take_job, Move_region, End_slot, Next_time, acting, front, effect, taken_at, combs_started, held_combs, is_starter, waiting_starters, job_taken, job_done, job_spot, updates_written, strobe_text, strobe_printed, strobes_printed, monitor_tried, monitor_printed, is_due, closed, slot_ended}
 use Rattle.sv_frame.proofs.Ways.{IsIn}
 use Rattle.sv_frame.proofs.Paths.{body_of_side}
 use Rattle.sv_frame.proofs.Heaps.{heaped, heap_after, effect_heap}
@@ -120,7 +120,7 @@ module _ (d : Parts) (ss : List Side) (begins : BeginsWith d ss) where
       by_place r q (inl k) = h.each r q k
       by_place r q (inr k) = subst (IsHomeState d ss) k.1 (g x (ap (λ (xs : List Side). slice_get xs p.0) (sym h.are) ∙ side_listed ps p.0 x e) (h.each p x e))
 
-  process_home : (p : ProcessId) (f : ProcessState → ProcessState) → KeepsSide f → KeepsHome p f → (c : Config) → Home c → Home (with_process p f c)
+  pub process_home : (p : ProcessId) (f : ProcessState → ProcessState) → KeepsSide f → KeepsHome p f → (c : Config) → Home c → Home (with_process p f c)
   process_home p f n g c h = set_home p f n g c.processes c.activations (process_at c p) refl h
 
   either_home : (b : Bool) (x y : Config) → Home x → Home y → Home (cond b x y)
@@ -136,7 +136,7 @@ module _ (d : Parts) (ss : List Side) (begins : BeginsWith d ss) where
   all_ready_home [] c h = h
   all_ready_home (p ∷ ps) c h = all_ready_home ps (made_ready p c) (ready_home p c h)
 
-  change_home : (ps : List ProcessId) (old new : Config) → Home new → Home (after_change d ps old new)
+  pub change_home : (ps : List ProcessId) (old new : Config) → Home new → Home (after_change d ps old new)
   change_home ps old new h = all_ready_home ps (record new { regions = clocks_from 0 d.clockings old new new.regions }) h
 
   handed_home : (ws : List Woken) (c : Config) → Home c → Home (handed ws c)
@@ -153,7 +153,7 @@ module _ (d : Parts) (ss : List Side) (begins : BeginsWith d ss) where
 
   -- ---- effects
 
-  suspended_home : (p : ProcessId) (u : Until) (c : Config) → Home c → Home (suspended p u c)
+  pub suspended_home : (p : ProcessId) (u : Until) (c : Config) → Home c → Home (suspended p u c)
   suspended_home p u c h = set_home p (λ q. record q { latest = Waiting u }) (λ q. refl) (λ q i k. k) c.processes c.activations (process_at c p) refl h
 
   update_home : (s : Side) (t : ℕ) (j : Job) (c : Config) → Home c → Home (update_scheduled s t j c)
@@ -220,25 +220,30 @@ module _ (d : Parts) (ss : List Side) (begins : BeginsWith d ss) where
       by_kind kind.Assign = suspended_home p (Watches f.watched None) again again_home
       by_kind kind.Port = suspended_home p (Watches f.watched None) again again_home
 
+  -- a fork makes processes
+  abbrev pub adds : Effect → Bool
+  adds (Spawn rs scope k) = true
+  adds x = false
+
   module _ (at : Place) (p : ProcessId) (s : Side) (mine : slice_get ss p.0 ≡ Some s) where
-    beside_home : (x : Effect) → IsHomeEffect d ss s x → (c : Config) → Home c → Home (scheduled_after d at p x c)
-    beside_home (Remain rest) e c h =
+    beside_home : (x : Effect) → adds x ≡ false → IsHomeEffect d ss s x → (c : Config) → Home c → Home (scheduled_after d at p x c)
+    beside_home (Remain rest) n e c h =
         process_home p (λ q. record q { rest = rest }) (λ q. refl) (λ q i k. subst (λ s. AllByRecursion (IsHome d ss s) rest) (some_same (sym mine ∙ i)) e) c h
-    beside_home (Enter ts around) e c h = process_home p (λ q. record q { made = q.made + 1 }) (λ q. refl) (λ q i k. k) c h
-    beside_home (Serve k b) e c h = handed_home (served b).woken c h
-    beside_home (Grant k m) e c h = all_ready_home (granted m).woken c h
-    beside_home (Suspend Turn_in_slot) e c h = suspended_home p Turn_in_slot c h
-    beside_home (Suspend u) e c h = suspended_home p u c h
-    beside_home (Resume_at t) e c h = suspended_home p Moment c h
-    beside_home (Update_at t j) e c h = update_home _ t j c h
-    beside_home (Drive_output k n v) e c h = drove_home at k n v c h
-    beside_home (Spawn rs scope k) e c h = absurd e
-    beside_home Await_children e c h = awaiting_home p (living_children c p) c h
-    beside_home End_descendants e c h = all_ended_home (descendants c p) c h
-    beside_home (Keep_print k pieces es) e c h = kept_home k _ c h
-    beside_home Exit_program e c h = exited_home (program_in (process_at c p)) c h
-    beside_home End e c h = end_home p (first_process d p) refl c h
-    beside_home x e c h = h
+    beside_home (Enter ts around) n e c h = process_home p (λ q. record q { made = q.made + 1 }) (λ q. refl) (λ q i k. k) c h
+    beside_home (Serve k b) n e c h = handed_home (served b).woken c h
+    beside_home (Grant k m) n e c h = all_ready_home (granted m).woken c h
+    beside_home (Suspend Turn_in_slot) n e c h = suspended_home p Turn_in_slot c h
+    beside_home (Suspend u) n e c h = suspended_home p u c h
+    beside_home (Resume_at t) n e c h = suspended_home p Moment c h
+    beside_home (Update_at t j) n e c h = update_home _ t j c h
+    beside_home (Drive_output k m v) n e c h = drove_home at k m v c h
+    beside_home (Spawn rs scope k) n e c h = absurd (cc)
+    beside_home Await_children n e c h = awaiting_home p (living_children c p) c h
+    beside_home End_descendants n e c h = all_ended_home (descendants c p) c h
+    beside_home (Keep_print k pieces es) n e c h = kept_home k _ c h
+    beside_home Exit_program n e c h = exited_home (program_in (process_at c p)) c h
+    beside_home End n e c h = end_home p (first_process d p) refl c h
+    beside_home x n e c h = h
 
     -- the activations of what comes of a world stand in scopes of their sides
     abbrev Enclosed : Worlded → Type 0
@@ -269,7 +274,7 @@ module _ (d : Parts) (ss : List Side) (begins : BeginsWith d ss) where
             → Enclosed (cond b (with_result v (λ a. Ok (record w { heap = a.1; activations = w.activations ++ new a.0 ∷ [] }))) (Err fault.Activations))
         by_tests false v = tt
         by_tests true (Err k) = tt
-        by_tests true (Ok a) = both (IsEnclosed ss) w.activations (new a.0 ∷ []) h ((λ t k. subst (λ t. IsScope ss t around) (some_same (sym mine ∙ k)) e), tt)
+        by_tests true (Ok a) = both (IsEnclosed ss) w.activations (new a.0 ∷ []) h ((s, mine, e), tt)
 
     world_enclosed : (n : ℕ) (x : Effect) → IsHomeEffect d ss s x → (w : World) → AllByRecursion (IsEnclosed ss) w.activations → Enclosed (world_after d p n x w)
     world_enclosed n (Enter ts around) e w h = entered_enclosed n ts around e w h
@@ -277,21 +282,17 @@ module _ (d : Parts) (ss : List Side) (begins : BeginsWith d ss) where
     world_enclosed n (Write (Variable_of m i r) x) e w h = over_enclosed m i r x w.activations h
     world_enclosed n x e w h = subst Enclosed (sym (effect_heap d p n x tt w)) (heaped_enclosed (heap_after d p n x w.heap) w h)
 
-    applied_home : (x : Effect) → IsHomeEffect d ss s x → (c : Config) → Home c → Home (applied d at p x c)
-    applied_home x e c h =
+    applied_home : (x : Effect) → adds x ≡ false → IsHomeEffect d ss s x → (c : Config) → Home c → Home (applied d at p x c)
+    applied_home x m e c h =
         let n = made_by (process_at c p) in
         by_world (world_after d p n x c.world) (world_enclosed n x e c.world h.around)
       where
         by_world : (w : Worlded) → Enclosed w → Home (with_world d at p x c w)
         by_world (Err k) g = h
-        by_world (Ok w) g = beside_home x e (record c { world = w }) (record { each = h.each; are = h.are; around = g })
+        by_world (Ok w) g = beside_home x m e (record c { world = w }) (record { each = h.each; are = h.are; around = g })
 
-    occurred_home : (x : Effect) → IsHomeEffect d ss s x → (c : Config) → Home c → Home (occurred d at p x c)
-    occurred_home x e c h = change_home (woken_by_effect d x c (applied d at p x c)) c (applied d at p x c) (applied_home x e c h)
-
-    pub all_home : (xs : List Effect) → AllByRecursion (IsHomeEffect d ss s) xs → (c : Config) → Home c → Home (all_occurred d at p xs c)
-    all_home [] e c h = h
-    all_home (x ∷ xs) e c h = either_home (may_go_on p c) _ c (all_home xs e.1 (occurred d at p x c) (occurred_home x e.0 c h)) h
+    pub occurred_home : (x : Effect) → adds x ≡ false → IsHomeEffect d ss s x → (c : Config) → Home c → Home (occurred d at p x c)
+    occurred_home x m e c h = change_home (woken_by_effect d x c (applied d at p x c)) c (applied d at p x c) (applied_home x m e c h)
 
   -- ---- jobs
 
@@ -394,28 +395,12 @@ module _ (d : Parts) (ss : List Side) (begins : BeginsWith d ss) where
   pub own_side : (c : Config) → Home c → (p : ProcessId) (q : ProcessState) → process_at c p ≡ Some q → slice_get ss p.0 ≡ Some q.side
   own_side c h p q is = ap (λ (xs : List Side). slice_get xs p.0) (sym h.are) ∙ side_listed c.processes p.0 q is
 
-  ran_home : (p : ProcessId) (c : Config) → c.running ≡ Some p → RunsHome c → (o : Option ProcessState) → process_at c p ≡ o → Home c → Home (ran_state d p o c)
-  ran_home p c r w None e h = h
-  ran_home p c r w (Some q) e h =
-      all_home (unwrap_or (place_of_step q.rest) no_place) p q.side (own_side c h p q e) (micro d (seen d c) p q) (w p q r e) (with_process p (λ r. record r { handed = None }) c)
-      (process_home p (λ r. record r { handed = None }) (λ q. refl) (λ q i k. k) c h)
-
-  statement_home : (o : Option ProcessId) (c : Config) → c.running ≡ o → RunsHome c → Home c → Home (statement_ran d o c)
-  statement_home None c r w h = h
-  statement_home (Some p) c r w h = ran_home p c r w (process_at c p) refl h
-
-  effect_home : (c : Config) → RunsHome c → Home c → (m : Kind) → Home (effect d c m)
-  effect_home c w h Begin_slot = h
-  effect_home c w h (Take_process place) = taken_home (acting c) place (slice_get (front c).ready place) c h
-  effect_home c w h Run_statement = statement_home c.running c refl w h
-  effect_home c w h Take_job = job_home (acting c) (front c).jobs c h
-  effect_home c w h Move_region = h
-  effect_home c w h End_slot = slot_home c h
-  effect_home c w h Next_time = h
-
-  counted_home : (s : Side) (n : ℕ) (c : Config) → Home c → Home (counted s n c)
-  counted_home Active n c h = h
-  counted_home Reactive n c h = h
-
-  pub after_home : (c : Config) → RunsHome c → Home c → (m : Kind) → Home (after d c m)
-  after_home c w h m = counted_home (side_after c m) (numbers_used m (pickable (front c))) (effect d c m) (effect_home c w h m)
+  -- a step of any other kind than that of a statement
+  pub other_home : (c : Config) → Home c → (m : Kind) → ((e : m ≡ Run_statement) → ⊥) → Home (effect d c m)
+  other_home c h Begin_slot n = h
+  other_home c h (Take_process place) n = taken_home (acting c) place (slice_get (front c).ready place) c h
+  other_home c h Run_statement n = absurd (n refl)
+  other_home c h Take_job n = job_home (acting c) (front c).jobs c h
+  other_home c h Move_region n = h
+  other_home c h End_slot n = slot_home c h
+  other_home c h Next_time n = h

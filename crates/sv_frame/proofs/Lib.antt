@@ -4,12 +4,18 @@ pub mod Alike
 pub mod Lists
 pub mod Heaps
 pub mod Effects
+pub mod Families
+pub mod Spawned
+pub mod Outcomes
 pub mod Ways
 pub mod Paths
 pub mod Heads
 pub mod Home
 pub mod MicroHome
+pub mod StepHome
+pub mod Wider
 pub mod Homes
+pub mod Grown
 pub mod Runs
 pub mod Framed
 mod Mixed

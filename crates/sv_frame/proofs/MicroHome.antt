@@ -1,6 +1,6 @@
--- What a step leaves to run stands in the bodies of the side where what was left to run does; forks and calls of methods are not among these steps yet.
+-- What a step leaves to run stands in the bodies of the side where what was left to run does: bodies, jumps, loops, forks and calls; calls of methods are not among these yet.
 use Rattle.std.proofs.Common.{ℕ, zero, suc, ◌≡◌, ◌+◌, List, [], ◌∷◌, ◌++◌, Option, None, Some, Bool, true, false, cond, refl, map, inl, inr, slice_get}
-use Rattle.std.specs.Prelude.{Result, Ok, Err, IfOk, flat_map, unwrap_or, if◌then◌else◌, nat_lt, nat_le, ◌==◌, ◌^◌}
+use Rattle.std.specs.Prelude.{Result, Ok, Err, IfOk, flat_map, if◌then◌else◌, nat_lt, nat_le, ◌^◌}
 use Rattle.std.specs.List.{AllByRecursion}
 use Rattle.sv_value.specs.declared.number.ProcessId.{ProcessId}
 use Rattle.sv_value.specs.declared.number.RoutineId.{RoutineId}
@@ -10,57 +10,48 @@ use Rattle.sv_value.specs.declared.place.FaultKind.{FaultKind}
 use Rattle.sv_value.specs.declared.place.FaultKind.TheVariants as fault
 use Rattle.sv_value.specs.declared.val.Val.{Val}
 use Rattle.sv_value.specs.declared.val.Index.{Index}
-use Rattle.sv_value.specs.declared.val.Message.{Message}
-use Rattle.sv_value.specs.declared.val.Wanted.{Wanted}
 use Rattle.sv_value.specs.declared.schedule.Side.{Side}
-use Rattle.sv_value.specs.declared.schedule.Job.TheVariants as job
 use Rattle.sv_value.specs.declared.operator.CaseKind.{CaseKind}
 use Rattle.sv_value.specs.declared.val.Val.TheVariants as val
 use Rattle.sv_value.specs.Vector.{vector}
-use Rattle.sv_value.specs.Digits.{rendered}
-use Rattle.sv_value.specs.Operators.{is_true, integer_symbols}
-use Rattle.sv_value.specs.Containers.{Container as Contents, Items, resized_to}
+use Rattle.sv_value.specs.Operators.{integer_symbols}
+use Rattle.sv_value.specs.Containers.{Container as Contents}
 use Rattle.sv_flat.specs.declared.object.Bounds.{Bounds}
 use Rattle.sv_flat.specs.declared.object.Declared.{Declared}
-use Rattle.sv_flat.specs.declared.process.Edge.TheVariants as edge
-use Rattle.sv_flat.specs.declared.process.Watch.TheVariants.{On, Updates}
 use Rattle.sv_flat.specs.declared.class.Variable.{Variable}
 use Rattle.sv_flat.specs.declared.class.Formal.{Formal}
 use Rattle.sv_flat.specs.declared.class.Subroutine.{Subroutine}
 use Rattle.sv_flat.specs.declared.call.Argument.{Argument}
-use Rattle.sv_flat.specs.declared.call.Call.{Call}
 use Rattle.sv_flat.specs.declared.call.CallForm.{CallForm}
 use Rattle.sv_flat.specs.declared.call.CallForm.TheVariants as call
 use Rattle.sv_flat.specs.declared.stmt.CaseItem.{CaseItem}
 use Rattle.sv_flat.specs.declared.stmt.Stmt.{Stmt}
 use Rattle.sv_flat.specs.declared.stmt.Form.{Form}
 use Rattle.sv_flat.specs.declared.stmt.Form.TheVariants as form
-use Rattle.sv_flat.specs.declared.stmt.PrintKind.TheVariants as print
+use Rattle.sv_flat.specs.declared.stmt.JoinKind.{JoinKind}
 use Rattle.sv_flat.specs.declared.target.Container.{Container}
 use Rattle.sv_flat.specs.declared.target.Lvalue.{Lvalue}
 use Rattle.sv_flat.specs.declared.design.Parts.{Parts}
 use Rattle.sv_flat.specs.Expr.{Expr}
-use Rattle.sv_flat.specs.State.{View, Name, initial_of}
-use Rattle.sv_flat.specs.Eval.{value_of, element_count, vector_in, text, text_in, with_result, key_in}
-use Rattle.sv_flat.specs.Names.{form_exprs, call_exprs, argument_exprs, target_exprs, optional_targets, form_calls, call_routines, inner_routines, forked, optional}
+use Rattle.sv_flat.specs.State.{View, Name}
+use Rattle.sv_flat.specs.Eval.{value_of, element_count, with_result}
+use Rattle.sv_flat.specs.Names.{call_exprs, argument_exprs, target_exprs, optional_targets, form_calls, call_routines, inner_routines, forked, optional}
 use Rattle.sv_flat.specs.Targets.{with_reference, spots_of, target_values, as_type}
-use Rattle.sv_flat.specs.Process.{Todo, Do, Turn, Turns, Walk, Walk_elements, Start_children, Leave, Receive, Put, Output, Return, Held, Spot, Variable_of, Effect, Remain, Enter, Write, Contain, Suspend, Watches, Resume_at, Update_at, Spawn, Trigger_event, Drive_output, End_descendants, Print_text, Keep_print, Finish_run, ProcessState, types_of, routine_of, body_in, optional_body_in}
-use Rattle.sv_flat.specs.Statements.{executed, branch, returned, scheduled_for, with_items}
-use Rattle.sv_flat.specs.Statements.Shared.{Effects, Site, from_result, ending, goes_on, waits, value_in, values_of, written, assigned, count_of, counted, updates_for, fails, result_write, with_through}
+use Rattle.sv_flat.specs.Process.{Todo, Do, Turn, Turns, Walk, Walk_elements, Start_children, Leave, Output, Return, Held, Spot, Variable_of, Effect, Remain, Enter, Write, Resume_at, Spawn, types_of, routine_of, body_in, optional_body_in}
+use Rattle.sv_flat.specs.Statements.{spawn, forked as forked_effects, with_items}
+use Rattle.sv_flat.specs.Statements.Shared.{Effects, Site, from_result, ending, goes_on, value_in, written, counted, fails, result_write, with_through}
 use Rattle.sv_flat.specs.Statements.Containers.{with_container, items_in, key_value}
-use Rattle.sv_flat.specs.Statements.Delays.{ticks_of, at_moment, delayed}
-use Rattle.sv_flat.specs.Statements.Events.{queued, frozen}
+use Rattle.sv_flat.specs.Statements.Delays.{at_moment, delayed}
+use Rattle.sv_flat.specs.Statements.Events.{queued}
 use Rattle.sv_flat.specs.Statements.Jumps.{after_break, after_continue, after_return, open_calls, step_of}
 use Rattle.sv_flat.specs.Statements.Calls.{called}
 use Rattle.sv_flat.specs.Statements.Routines.{variable_spot, variable_value, argument_write, argument_writes, output, outputs_of, result_given, needs_activation, callee_name, activation_entered, own_write, returns_to, subroutine_called, of_subroutine, routine_called, copied_out, given_value, left}
-use Rattle.sv_flat.specs.Statements.Loops.{turned, body_first, done_first, repeated, inside, entered_with, walk_turn, element_turn, element_index, int_type, next_index, name_or}
+use Rattle.sv_flat.specs.Statements.Loops.{turned, body_first, done_first, repeated, inside, entered_with, walk_turn, element_turn, element_index}
 use Rattle.sv_flat.specs.Statements.Matching.{chosen_item, any_label}
-use Rattle.sv_flat.specs.Statements.Synchronization.{fits, received}
-use Rattle.sv_flat.specs.Micro.{Looks, micro, run_first, statement_run, site, first_site, walked_on, element_on}
 use Rattle.sv_frame.proofs.Ways.{IsIn, in_left, in_right, in_flat_map}
 use Rattle.sv_frame.proofs.Paths.{IsStartOf, IsRoutineOf, IsStmtOf, IsVariableNamed, start_of_side, inner_of_side, formal_named}
 use Rattle.sv_frame.proofs.Scopes.{IsScope}
-use Rattle.sv_frame.proofs.Home.{IsHome, IsHomeOutput, IsHomeGiven, AreNamed, form_named, call_named, stmt_starts, form_starts, all_in}
+use Rattle.sv_frame.proofs.Home.{IsHome, IsHomeOutput, IsHomeGiven, AreNamed, all_in}
 
 -- ---- what is shown here
 
@@ -69,24 +60,22 @@ abbrev pub IsFramedCall : CallForm → Type 0
 IsFramedCall (call.Routine r e as') = Unit {0}
 IsFramedCall c = ⊥
 
--- all forms but forks and other calls
+-- all forms but other calls
 abbrev pub IsFramedForm : Form → Type 0
 IsFramedForm (form.Call c) = IsFramedCall c.form
-IsFramedForm (form.Fork ts initializers children join) = ⊥
 IsFramedForm f = Unit {0}
 
 -- what is left to run of such forms and calls
 abbrev pub IsFramedTodo : Todo → Type 0
 IsFramedTodo (Do t cs outer hidden) = IsFramedForm t.form × AllByRecursion (λ c. IsFramedCall c.form) cs
 IsFramedTodo (Turn t scope) = IsFramedForm t.form × AllByRecursion (λ c. IsFramedCall c.form) t.calls
-IsFramedTodo (Start_children at cs j scope) = ⊥
 IsFramedTodo t = Unit {0}
 
 -- an effect that leaves nothing to run that does not stand in the bodies of the side
 abbrev pub IsHomeEffect : Parts → List Side → Side → Effect → Type 0
 IsHomeEffect d ss s (Remain rest) = AllByRecursion (IsHome d ss s) rest
 IsHomeEffect d ss s (Enter ts around) = IsScope ss s around
-IsHomeEffect d ss s (Spawn rs scope k) = ⊥
+IsHomeEffect d ss s (Spawn rs scope k) = AllByRecursion (IsRoutineOf d s) rs × IsScope ss s scope
 IsHomeEffect d ss s e = Unit {0}
 
 -- ---- lists
@@ -96,64 +85,64 @@ both P [] ys h k = k
 both P (x ∷ xs) ys h k = (h.0, both P xs ys h.1 k)
 
 module _ (d : Parts) (ss : List Side) (s : Side) where
-  abbrev AtHome : List Todo → Type 0
+  abbrev pub AtHome : List Todo → Type 0
   AtHome ts = AllByRecursion (IsHome d ss s) ts
 
-  abbrev HomeEffects : Effects → Type 0
+  abbrev pub HomeEffects : Effects → Type 0
   HomeEffects es = AllByRecursion (IsHomeEffect d ss s) es
 
   -- ---- the end of a statement
 
-  ending_home : (rest : List Todo) → HomeEffects (ending rest)
+  pub ending_home : (rest : List Todo) → HomeEffects (ending rest)
   ending_home [] = (tt, tt)
   ending_home (t ∷ ts) = tt
 
-  goes_home : (rest : List Todo) → AtHome rest → (es : Effects) → HomeEffects es → HomeEffects (goes_on rest es)
+  pub goes_home : (rest : List Todo) → AtHome rest → (es : Effects) → HomeEffects es → HomeEffects (goes_on rest es)
   goes_home rest h es k = (h, both (IsHomeEffect d ss s) es (ending rest) k (ending_home rest))
 
-  from_home : {A : Type 0} (r : Result A FaultKind) (go : A → Effects) → ((x : A) → HomeEffects (go x)) → HomeEffects (from_result r go)
+  pub from_home : {A : Type 0} (r : Result A FaultKind) (go : A → Effects) → ((x : A) → HomeEffects (go x)) → HomeEffects (from_result r go)
   from_home (Ok x) go k = k x
   from_home (Err e) go k = (tt, tt)
 
-  value_home : (e : Expr) (v : View) (go : Val → Effects) → ((x : Val) → HomeEffects (go x)) → HomeEffects (value_in e v go)
+  pub value_home : (e : Expr) (v : View) (go : Val → Effects) → ((x : Val) → HomeEffects (go x)) → HomeEffects (value_in e v go)
   value_home e v go k = from_home (value_of e v) go k
 
-  written_home : (ss : List Spot) (vs : List Val) → HomeEffects (written ss vs)
+  pub written_home : (ss : List Spot) (vs : List Val) → HomeEffects (written ss vs)
   written_home [] vs = tt
   written_home (x ∷ ss) [] = tt
   written_home (x ∷ ss) (v ∷ vs) = (tt, written_home ss vs)
 
-  moment_home : (n : ℕ) (v : View) (go : ℕ → Effects) → ((t : ℕ) → HomeEffects (go t)) → HomeEffects (at_moment n v go)
+  pub moment_home : (n : ℕ) (v : View) (go : ℕ → Effects) → ((t : ℕ) → HomeEffects (go t)) → HomeEffects (at_moment n v go)
   moment_home n v go k = by_test (nat_lt (v.now + n) (2 ^ 63))
     where
       by_test : (b : Bool) → HomeEffects (cond b (go (v.now + n)) (fails fault.Time))
       by_test true = k (v.now + n)
       by_test false = (tt, tt)
 
-  delayed_home : (n : ℕ) (v : View) → HomeEffects (delayed n v)
+  pub delayed_home : (n : ℕ) (v : View) → HomeEffects (delayed n v)
   delayed_home zero v = (tt, tt)
   delayed_home (suc n) v = moment_home (suc n) v (λ t. Resume_at t ∷ []) (λ t. (tt, tt))
 
-  counted_home : (o : Option ℕ) (go : ℕ → Effects) → ((n : ℕ) → HomeEffects (go n)) → HomeEffects (counted o go)
+  pub counted_home : (o : Option ℕ) (go : ℕ → Effects) → ((n : ℕ) → HomeEffects (go n)) → HomeEffects (counted o go)
   counted_home None go k = (tt, tt)
   counted_home (Some n) go k = k n
 
-  queued_home : (o : Option Key) → HomeEffects (queued o)
+  pub queued_home : (o : Option Key) → HomeEffects (queued o)
   queued_home None = (tt, tt)
   queued_home (Some k) = (tt, (tt, tt))
 
-  entered_home : (ts : List Declared) (outer : Option Name) → IsScope ss s outer → HomeEffects (entered_with ts outer)
+  pub entered_home : (ts : List Declared) (outer : Option Name) → IsScope ss s outer → HomeEffects (entered_with ts outer)
   entered_home [] outer j = tt
   entered_home (t ∷ ts) outer j = (j, tt)
 
-  inside_scope : (ts : List Declared) (outer : Option Name) (n : Name) → IsScope ss s outer → IsScope ss s (Some n) → IsScope ss s (inside ts outer n)
+  pub inside_scope : (ts : List Declared) (outer : Option Name) (n : Name) → IsScope ss s outer → IsScope ss s (Some n) → IsScope ss s (inside ts outer n)
   inside_scope [] outer n j k = j
   inside_scope (t ∷ ts) outer n j k = k
 
-  container_home : (c : Container) (v : View) (go : Held → Contents → Effects) → ((h : Held) (q : Contents) → HomeEffects (go h q)) → HomeEffects (with_container c v go)
+  pub container_home : (c : Container) (v : View) (go : Held → Contents → Effects) → ((h : Held) (q : Contents) → HomeEffects (go h q)) → HomeEffects (with_container c v go)
   container_home c v go k = from_home _ _ (λ h. k h _)
 
-  items_home : (c : Option Container) (v : View) (go : List Val → Effects) → ((xs : List Val) → HomeEffects (go xs)) → HomeEffects (with_items c v go)
+  pub items_home : (c : Option Container) (v : View) (go : List Val → Effects) → ((xs : List Val) → HomeEffects (go xs)) → HomeEffects (with_items c v go)
   items_home None v go k = k []
   items_home (Some c) v go k = container_home c v _ (λ h q. k (items_in q))
 
@@ -168,29 +157,46 @@ module _ (d : Parts) (ss : List Side) (s : Side) where
   body_home r h scope j = stmts_home r h scope j (routine_of d r).body (all_in (routine_of d r).body)
 
   -- a routine of the side, if there is one
-  abbrev IsOptional : Option RoutineId → Type 0
+  abbrev pub IsOptional : Option RoutineId → Type 0
   IsOptional None = Unit {0}
   IsOptional (Some r) = IsRoutineOf d s r
 
-  optional_home : (o : Option RoutineId) → IsOptional o → (scope : Option Name) → IsScope ss s scope → AtHome (optional_body_in d o scope)
+  pub optional_home : (o : Option RoutineId) → IsOptional o → (scope : Option Name) → IsScope ss s scope → AtHome (optional_body_in d o scope)
   optional_home None h scope j = tt
   optional_home (Some r) h scope j = body_home r h scope j
 
   -- the routines that stand in a form are of the side
-  abbrev Inner : Form → Type 0
+  abbrev pub Inner : Form → Type 0
   Inner f = (x : RoutineId) → IsIn x (inner_routines f ++ forked f) → IsRoutineOf d s x
 
-  inner : (t : Stmt) → IsStmtOf d s t → Inner t.form
+  pub inner : (t : Stmt) → IsStmtOf d s t → Inner t.form
   inner t h x i = inner_of_side d s t h x i
 
-  step_home : (f : Form) → Inner f → IsOptional (step_of f)
+  pub step_home : (f : Form) → Inner f → IsOptional (step_of f)
   step_home (form.While c b None) h = tt
   step_home (form.While c b (Some r)) h = h r (inr (inl refl))
   step_home f h = tt
 
+  -- ---- forks
+
+  pub spawn_home : (cs : List RoutineId) → AllByRecursion (IsRoutineOf d s) cs → (j : JoinKind) (scope : Option Name) → IsScope ss s scope → (rest : List Todo) → AtHome rest → (before : Effects) → HomeEffects before
+      → HomeEffects (spawn cs j scope rest before)
+  spawn_home cs h j scope l rest k before e = (k, both (IsHomeEffect d ss s) before (Spawn cs scope j ∷ ending rest) e ((h, l), ending_home rest))
+
+  children_home : (cs : List RoutineId) → ((x : RoutineId) → IsIn x cs → IsRoutineOf d s x) → AllByRecursion (IsRoutineOf d s) cs
+  children_home [] h = tt
+  children_home (c ∷ cs) h = (h c (inl refl), children_home cs (λ x i. h x (inr i)))
+
+  pub fork_home : (here : Site) → AtHome here.rest → (r : Option RoutineId) (cs : List RoutineId) → ((x : RoutineId) → IsIn x (optional r ++ cs) → IsRoutineOf d s x) → (j : JoinKind)
+      → (scope : Option Name) → IsScope ss s scope → (before : Effects) → HomeEffects before → HomeEffects (forked_effects d here r cs j scope before)
+  fork_home here k None cs h j scope l before e = spawn_home cs (children_home cs h) j scope l here.rest k before e
+  fork_home here k (Some r) cs h j scope l before e =
+      goes_home (body_in d r scope ++ Start_children here.at cs j scope ∷ here.rest)
+      (both (IsHome d ss s) (body_in d r scope) (Start_children here.at cs j scope ∷ here.rest) (body_home r (h r (inl refl)) scope l) ((children_home cs (λ x i. h x (inr i)), l), k)) before e
+
   -- ---- jumps
 
-  break_home : (ts : List Todo) → AtHome ts → AtHome (after_break ts)
+  pub break_home : (ts : List Todo) → AtHome ts → AtHome (after_break ts)
   break_home [] h = tt
   break_home (Turn l scope ∷ rest) h = h.1
   break_home (Turns at n r scope ∷ rest) h = h.1
@@ -198,7 +204,7 @@ module _ (d : Parts) (ss : List Side) (s : Side) where
   break_home (Walk_elements t n scope ∷ rest) h = h.1
   break_home (t ∷ rest) h = break_home rest h.1
 
-  continue_home : (ts : List Todo) → AtHome ts → AtHome (after_continue d ts)
+  pub continue_home : (ts : List Todo) → AtHome ts → AtHome (after_continue d ts)
   continue_home [] h = tt
   continue_home (Turn l scope ∷ rest) h =
       both (IsHome d ss s) (optional_body_in d (step_of l.form) scope) (Turn l scope ∷ rest) (optional_home (step_of l.form) (step_home l.form (inner l h.0.0)) scope h.0.1) h
@@ -207,14 +213,14 @@ module _ (d : Parts) (ss : List Side) (s : Side) where
   continue_home (Walk_elements t n scope ∷ rest) h = h
   continue_home (t ∷ rest) h = continue_home rest h.1
 
-  return_home : (ts : List Todo) → AtHome ts → AtHome (after_return ts)
+  pub return_home : (ts : List Todo) → AtHome ts → AtHome (after_return ts)
   return_home [] h = tt
   return_home (Leave at r ∷ rest) h = h
   return_home (t ∷ rest) h = return_home rest h.1
 
   -- ---- loops
 
-  turned_home : (t : Stmt) → IsStmtOf d s t → (body : RoutineId) → IsRoutineOf d s body → (step : Option RoutineId) → IsOptional step → (scope : Option Name)
+  pub turned_home : (t : Stmt) → IsStmtOf d s t → (body : RoutineId) → IsRoutineOf d s body → (step : Option RoutineId) → IsOptional step → (scope : Option Name)
       → IsScope ss s scope → (rest : List Todo) → AtHome rest
       → AtHome (turned d t body step scope rest)
   turned_home t h body b step o scope j rest k =
@@ -225,7 +231,7 @@ module _ (d : Parts) (ss : List Side) (s : Side) where
   first_home t h (form.While c body step) i scope j rest k = turned_home t h body (i body (inl refl)) step (step_home (form.While c body step) i) scope j rest k
   first_home t h f i scope j rest k = k
 
-  done_home : (again : RoutineId) → IsRoutineOf d s again → (scope : Option Name) → IsScope ss s scope → (rest : List Todo) → AtHome rest
+  pub done_home : (again : RoutineId) → IsRoutineOf d s again → (scope : Option Name) → IsScope ss s scope → (rest : List Todo) → AtHome rest
       → AtHome (done_first d (slice_get (routine_of d again).body 0) scope rest)
   done_home again h scope j rest k = by_first (routine_of d again).body (all_in (routine_of d again).body)
     where
@@ -235,13 +241,13 @@ module _ (d : Parts) (ss : List Side) (s : Side) where
           let at : IsStmtOf d s t = record { routine = again; of_side = h; within = i.0 } in
           first_home t at t.form (inner t at) scope j rest k
 
-  repeated_home : (at : Place) (n : ℕ) (body : RoutineId) → IsRoutineOf d s body → (scope : Option Name) → IsScope ss s scope → (rest : List Todo) → AtHome rest
+  pub repeated_home : (at : Place) (n : ℕ) (body : RoutineId) → IsRoutineOf d s body → (scope : Option Name) → IsScope ss s scope → (rest : List Todo) → AtHome rest
       → HomeEffects (repeated d at n body scope rest)
   repeated_home at zero body b scope j rest k = goes_home rest k [] tt
   repeated_home at (suc n) body b scope j rest k =
       goes_home (body_in d body scope ++ Turns at n body scope ∷ rest) (both (IsHome d ss s) (body_in d body scope) (Turns at n body scope ∷ rest) (body_home body b scope j) ((b, j), k)) [] tt
 
-  walk_home : (t : Stmt) → IsStmtOf d s t → (body : RoutineId) → IsRoutineOf d s body → (i : Option Index) (outer : Option Name) → IsScope ss s outer → (scope : Name)
+  pub walk_home : (t : Stmt) → IsStmtOf d s t → (body : RoutineId) → IsRoutineOf d s body → (i : Option Index) (outer : Option Name) → IsScope ss s outer → (scope : Name)
       → IsScope ss s (Some scope)
       → (rest : List Todo) → AtHome rest → (before : Effects) → HomeEffects before → HomeEffects (walk_turn d t body i outer scope rest before)
   walk_home t h body b None outer j scope l rest k before p = goes_home rest k before p
@@ -250,7 +256,7 @@ module _ (d : Parts) (ss : List Side) (s : Side) where
       (both (IsHome d ss s) (body_in d body (Some scope)) (Walk t i outer (Some scope) ∷ rest) (body_home body b (Some scope) l) ((h, j, l), k))
       (before ++ Write (Variable_of scope 0 None) (key_value i) ∷ []) (both (IsHomeEffect d ss s) before _ p (tt, tt))
 
-  element_home : (t : Stmt) → IsStmtOf d s t → (b : Bounds) (body : RoutineId) → IsRoutineOf d s body → (n : ℕ) (scope : Name) → IsScope ss s (Some scope) → (rest : List Todo) → AtHome rest
+  pub element_home : (t : Stmt) → IsStmtOf d s t → (b : Bounds) (body : RoutineId) → IsRoutineOf d s body → (n : ℕ) (scope : Name) → IsScope ss s (Some scope) → (rest : List Todo) → AtHome rest
       → (before : Effects) → HomeEffects before → HomeEffects (element_turn d t b body n scope rest before)
   element_home t h b body r n scope j rest k before p = by_test (nat_lt n (element_count b))
     where
@@ -266,11 +272,11 @@ module _ (d : Parts) (ss : List Side) (s : Side) where
 
   -- ---- `case`
 
-  abbrev OnChosen : Result (Option RoutineId) FaultKind → Type 0
+  abbrev pub OnChosen : Result (Option RoutineId) FaultKind → Type 0
   OnChosen (Ok o) = IsOptional o
   OnChosen (Err k) = Unit {0}
 
-  chosen_home : (m : CaseKind) (x : Val) (items : List CaseItem) (other : Option RoutineId) (v : View)
+  pub chosen_home : (m : CaseKind) (x : Val) (items : List CaseItem) (other : Option RoutineId) (v : View)
       → ((r : RoutineId) → IsIn r (map (λ a. a.body) items ++ optional other) → IsRoutineOf d s r) → OnChosen (chosen_item m x items other v)
   chosen_home m x [] None v h = tt
   chosen_home m x [] (Some r) v h = h r (inl refl)
@@ -285,11 +291,11 @@ module _ (d : Parts) (ss : List Side) (s : Side) where
   -- ---- calls
 
   -- the routines that a call runs are of the side
-  abbrev StartsOf : CallForm → Type 0
+  abbrev pub StartsOf : CallForm → Type 0
   StartsOf c = (x : RoutineId) → IsIn x (call_routines d c) → IsStartOf d s x
 
   -- and those of the call that a form is
-  abbrev Starts : Form → Type 0
+  abbrev pub Starts : Form → Type 0
   Starts f = (c : CallForm) → IsIn c (form_calls f) → StartsOf c
 
   with_home : {A : Type 0} (r : Result A FaultKind) (P : A → Type 0) (go : A → Effects) → IfOk r P → ((x : A) → P x → HomeEffects (go x)) → HomeEffects (from_result r go)
@@ -397,7 +403,7 @@ module _ (d : Parts) (ss : List Side) (s : Side) where
   through_home None v es h = h
   through_home (Some e) v es h = from_home (with_reference e v (λ k. Ok k)) _ (λ k. h)
 
-  called_home : (p : ProcessId) (here : Site) → IsScope ss s here.scope → IsScope ss s (Some here.next) → AtHome here.rest → (c : CallForm) → IsFramedCall c → StartsOf c
+  pub called_home : (p : ProcessId) (here : Site) → IsScope ss s here.scope → IsScope ss s (Some here.next) → AtHome here.rest → (c : CallForm) → IsFramedCall c → StartsOf c
       → AreNamed d s (call_exprs c) → HomeEffects (called d p here c)
   called_home p here js jn k (call.Routine r e as') f g n =
       through_home e here.view (routine_called d here r as' None [])
@@ -422,158 +428,8 @@ module _ (d : Parts) (ss : List Side) (s : Side) where
       by_results (Ok us) (Err e) k = tt
       by_results (Err e) rs k = tt
 
-  left_home : (r : Return) (callee caller : View) (rest : List Todo) → AtHome rest → HomeEffects (left r callee caller rest)
+  pub left_home : (r : Return) (callee caller : View) (rest : List Todo) → AtHome rest → HomeEffects (left r callee caller rest)
   left_home r callee caller rest k =
       let x = given_value r.given callee in
       with_home (copied_out r.outputs callee caller) HomeEffects _ (copied_home r.outputs callee caller)
       (λ ws w. goes_home rest k (ws ++ result_write r.hidden r.caller x) (both (IsHomeEffect d ss s) ws (result_write r.hidden r.caller x) w (given_home r.hidden r.caller x)))
-
-  -- ---- each form
-
-  module _ (p : ProcessId) (t : Stmt) (at : IsStmtOf d s t) (outer : Option Name) (jo : IsScope ss s outer) (here : Site) (js : IsScope ss s here.scope) (jn : IsScope ss s (Some here.next)) (k : AtHome here.rest) where
-    before_rest : (ts : List Todo) → AtHome ts → (es : Effects) → HomeEffects es → HomeEffects (goes_on (ts ++ here.rest) es)
-    before_rest ts h es e = goes_home (ts ++ here.rest) (both (IsHome d ss s) ts here.rest h k) es e
-
-    on : (es : Effects) → HomeEffects es → HomeEffects (goes_on here.rest es)
-    on es h = goes_home here.rest k es h
-
-    writes : (ts : List Lvalue) (x : Val) (ss : List Spot) → HomeEffects (goes_on here.rest (written ss (target_values ts x)))
-    writes ts x ss = on (written ss (target_values ts x)) (written_home ss (target_values ts x))
-
-    schedules : (ts : List Lvalue) (x : Val) (n : ℕ) (ss : List Spot) → HomeEffects (scheduled_for here ts x n ss)
-    schedules ts x n ss = moment_home n here.view (λ m. goes_on here.rest (Update_at m (job.Update (updates_for ss (target_values ts x))) ∷ [])) (λ m. on (Update_at m (job.Update (updates_for ss (target_values ts x))) ∷ []) (tt, tt))
-
-    branches : (y : Bool) (a : RoutineId) (b : Option RoutineId) → IsRoutineOf d s a → IsOptional b → AtHome (branch d y a b outer)
-    branches true a b h o = body_home a h outer jo
-    branches false a b h o = optional_home b o outer jo
-
-    chosen : (r : Result (Option RoutineId) FaultKind) → OnChosen r → HomeEffects (from_result r (λ r. goes_on (optional_body_in d r outer ++ here.rest) []))
-    chosen (Ok o) h = before_rest (optional_body_in d o outer) (optional_home o h outer jo) [] tt
-    chosen (Err e) h = (tt, tt)
-
-    tested : (y : Bool) (body : RoutineId) (step : Option RoutineId) → IsRoutineOf d s body → IsOptional step
-        → HomeEffects (goes_on (cond y (turned d t body step outer here.rest) here.rest) [])
-    tested true body step b o = goes_home _ (turned_home t at body b step o outer jo here.rest k) [] tt
-    tested false body step b o = on [] tt
-
-    waited : (y : Bool) (e : Expr) → HomeEffects (cond y (goes_on here.rest []) (waits (Do t [] outer None ∷ here.rest) (Suspend (Watches (On (frozen e here.view) edge.Change None ∷ []) here.scope) ∷ [])))
-    waited true e = on [] tt
-    waited false e = (((at, tt, jo, tt), k), (tt, tt))
-
-    cycled : (y : Bool) (n : ℕ) (es : Effects) → HomeEffects es → HomeEffects (cond y (fails fault.Count) (waits here.rest es))
-    cycled true n es h = (tt, tt)
-    cycled false n es h = (k, h)
-
-    -- without an else branch
-    other_branch : (e : Expr) (a : RoutineId) (b : Option RoutineId) → Inner (form.If e a b) → IsOptional b
-    other_branch e a None i = tt
-    other_branch e a (Some r) i = i r (inr (inl refl))
-
-    returns : (ts : List Lvalue) (e : Option Expr) → HomeEffects (returned here ts e)
-    returns ts None = goes_home (after_return here.rest) (return_home here.rest k) [] tt
-    returns ts (Some e) = from_home (spots_of ts here.view) _ (λ ss. value_home e here.view _ (λ x. goes_home (after_return here.rest) (return_home here.rest k) _ (written_home ss (target_values ts x))))
-
-    form_home : (m : Form) → IsFramedForm m → Inner m → AreNamed d s (form_exprs m) → Starts m → HomeEffects (executed d p t m outer here)
-    form_home form.Null f i n g = on [] tt
-    form_home (form.Block ts body) f i n g = before_rest (body_in d body (inside ts outer here.next)) (body_home body (i body (inl refl)) (inside ts outer here.next) (inside_scope ts outer here.next jo jn)) (entered_with ts outer) (entered_home ts outer jo)
-    form_home (form.Assign ts e) f i n g = from_home (spots_of ts here.view) _ (λ ss. value_home e here.view _ (λ x. writes ts x ss))
-    form_home (form.AssignAfter ts e delay in_ticks) f i n g =
-        value_home delay here.view _ (λ m. value_home e here.view _ (λ x. (((λ a j. n a (inr (inr j)), js), k), delayed_home (ticks_of in_ticks (vector_in m) here.view) here.view)))
-    form_home (form.Nonblocking ts e None in_ticks) f i n g = from_home (spots_of ts here.view) _ (λ ss. value_home e here.view _ (λ x. schedules ts x 0 ss))
-    form_home (form.Nonblocking ts e (Some delay) in_ticks) f i n g =
-        value_home delay here.view _ (λ m. value_home e here.view _ (λ x. from_home (spots_of ts here.view) _ (λ ss. schedules ts x (ticks_of in_ticks (vector_in m) here.view) ss)))
-    form_home (form.If e a b) f i n g =
-        value_home e here.view _ (λ x. before_rest (branch d (is_true (vector_in x)) a b outer) (branches (is_true (vector_in x)) a b (i a (inl refl)) (other_branch e a b i)) [] tt)
-    form_home (form.Case m e items other) f i n g =
-        value_home e here.view _ (λ x. chosen (chosen_item m x items other here.view) (chosen_home m x items other here.view (λ r j. i r (in_left r (map (λ a. a.body) items ++ optional other) [] j))))
-    form_home (form.While e body step) f i n g = value_home e here.view _ (λ x. tested (is_true (vector_in x)) body step (i body (inl refl)) (step_home (form.While e body step) i))
-    form_home (form.Do again) f i n g = goes_home _ (done_home again (i again (inl refl)) outer jo here.rest k) [] tt
-    form_home (form.Repeat e body) f i n g = value_home e here.view _ (λ x. repeated_home here.at (unwrap_or (count_of (vector_in x)) 0) body (i body (inl refl)) outer jo here.rest k)
-    form_home (form.Forever body) f i n g = goes_home _ (turned_home t at body (i body (inl refl)) None tt outer jo here.rest k) [] tt
-    form_home (form.Foreach c ty body) f i n g =
-        container_home c here.view _ (λ h q. walk_home t at body (i body (inl refl)) (next_index q None) outer jo here.next jn here.rest k (Enter (ty ∷ []) outer ∷ []) (jo, tt))
-    form_home (form.ForeachElement b body) f i n g = element_home t at b body (i body (inl refl)) 0 here.next jn here.rest k (Enter (int_type ∷ []) outer ∷ []) (jo, tt)
-    form_home form.Break f i n g = goes_home (after_break here.rest) (break_home here.rest k) [] tt
-    form_home form.Continue f i n g = goes_home (after_continue d here.rest) (continue_home here.rest k) [] tt
-    form_home (form.Return ts e) f i n g = returns ts e
-    form_home (form.Call c) f i n g = called_home p (record here { hidden = c.result }) js jn k c.form f (g c.form (inl refl)) n
-    form_home (form.Evaluate e) f i n g = value_home e here.view _ (λ x. on [] tt)
-    form_home (form.Delay e in_ticks) f i n g = value_home e here.view _ (λ m. (k, delayed_home (ticks_of in_ticks (vector_in m) here.view) here.view))
-    form_home (form.At ws) f i n g = (k, (tt, tt))
-    form_home (form.AtEvent e) f i n g = (k, queued_home (key_in (value_of e here.view)))
-    form_home (form.Cycles c e) f i n g =
-        value_home e here.view _ (λ x. counted_home (count_of (vector_in x)) _ (λ m. cycled (m == 0) m (Suspend (Watches (Updates c m ∷ []) here.scope) ∷ []) (tt, tt)))
-    form_home (form.Wait e) f i n g = value_home e here.view _ (λ x. waited (is_true (vector_in x)) e)
-    form_home (form.Fork ts initializers children join) f i n g = absurd f
-    form_home form.WaitFork f i n g = (k, (tt, ending_home here.rest))
-    form_home form.DisableFork f i n g = on (End_descendants ∷ []) (tt, tt)
-    form_home (form.Trigger e) f i n g = from_home (with_reference e here.view (λ key. Ok key)) (λ key. goes_on here.rest (Trigger_event key ∷ [])) (λ key. on (Trigger_event key ∷ []) (tt, tt))
-    form_home (form.Drive c signal e) f i n g = value_home e here.view _ (λ x. on (Drive_output c signal (vector_in x) ∷ []) (tt, tt))
-    form_home (form.Print print.Now pieces es) f i n g =
-        from_home (values_of es here.view) _ (λ xs. from_home (text (rendered here.view.unit pieces xs)) _ (λ x. on (Print_text (text_in x) ∷ []) (tt, tt)))
-    form_home (form.Print print.Strobe pieces es) f i n g = on (Keep_print print.Strobe pieces es ∷ []) (tt, tt)
-    form_home (form.Print print.Monitor pieces es) f i n g = on (Keep_print print.Monitor pieces es ∷ []) (tt, tt)
-    form_home (form.CopyContainer c source) f i n g =
-        container_home c here.view _ (λ h old. container_home source here.view (λ m q. goes_on here.rest (Contain h q ∷ [])) (λ m q. on (Contain h q ∷ []) (tt, tt)))
-    form_home (form.Resize c e source ty) f i n g =
-        container_home c here.view _ (λ h q. value_home e here.view _ (λ x. items_home source here.view _ (λ old.
-        counted_home (count_of (vector_in x)) (λ m. goes_on here.rest (Contain h (Items false (resized_to m (initial_of ty) old)) ∷ [])) (λ m.
-        on (Contain h (Items false (resized_to m (initial_of ty) old)) ∷ []) (tt, tt)))))
-    form_home form.Finish f i n g = on (Finish_run ∷ []) (tt, tt)
-    form_home form.Exit f i n g = (k, (tt, tt))
-
-  -- ---- the next step
-
-  module _ (look : Looks) (p : ProcessId) (name : Name) (jn : IsScope ss s (Some name)) where
-    run_home : (t : Stmt) → IsStmtOf d s t → IsFramedForm t.form → (cs : List Call) → AllByRecursion (λ c. IsIn c t.calls) cs → AllByRecursion (λ c. IsFramedCall c.form) cs
-        → (outer hidden : Option Name) → IsScope ss s outer → IsScope ss s hidden → (rest : List Todo) → AtHome rest → HomeEffects (statement_run d look p name t cs outer hidden rest)
-    run_home t h f [] i c outer None j l rest k = form_home p t h outer j (site d look p name t.at outer rest) j jn k t.form f (inner t h) (form_named d s t h) (form_starts d s t h)
-    run_home t h f [] i c outer (Some n) j l rest k = form_home p t h outer j (site d look p name t.at (Some n) rest) l jn k t.form f (inner t h) (form_named d s t h) (form_starts d s t h)
-    run_home t h f (x ∷ cs) i c outer None j l rest k =
-        (j, called_home p (first_site d look p name t.at outer x.result (Do t cs outer (Some name) ∷ rest)) jn jn ((h, i.1, j, jn), k) x.form c.0 (stmt_starts d s t h x i.0) (call_named d s t h x i.0))
-    run_home t h f (x ∷ cs) i c outer (Some n) j l rest k =
-        called_home p (record (site d look p name t.at (Some n) (Do t cs outer (Some n) ∷ rest)) { hidden = x.result }) l jn ((h, i.1, j, l), k) x.form c.0 (stmt_starts d s t h x i.0)
-        (call_named d s t h x i.0)
-
-    walk_scope : (scope : Option Name) → IsScope ss s scope → IsScope ss s (Some (name_or name scope))
-    walk_scope None h = jn
-    walk_scope (Some n) h = h
-
-    walked_home : (t : Stmt) → IsStmtOf d s t → (f : Form) → Inner f → (i : Index) (outer scope : Option Name) → IsScope ss s outer → IsScope ss s scope → (rest : List Todo)
-        → AtHome rest → HomeEffects (walked_on d look p name t f i outer scope rest)
-    walked_home t h (form.Foreach c ty body) j i outer scope o l rest k =
-        container_home c (look outer) _ (λ m q. walk_home t h body (j body (inl refl)) (next_index q (Some i)) outer o (name_or name scope) (walk_scope scope l) rest k [] tt)
-    walked_home t h f j i outer scope o l rest k = goes_home rest k [] tt
-
-    elements_home : (t : Stmt) → IsStmtOf d s t → (f : Form) → Inner f → (n : ℕ) (scope : Option Name) → IsScope ss s scope → (rest : List Todo) → AtHome rest
-        → HomeEffects (element_on d look p name t f n scope rest)
-    elements_home t h (form.ForeachElement b body) j n scope l rest k = element_home t h b body (j body (inl refl)) n (name_or name scope) (walk_scope scope l) rest k [] tt
-    elements_home t h f j n scope l rest k = goes_home rest k [] tt
-
-    assigned_home : (ts : List Lvalue) (x : Val) (v : View) (rest : List Todo) → AtHome rest → HomeEffects (assigned ts x v (λ ws. goes_on rest ws))
-    assigned_home ts x v rest k = from_home (spots_of ts v) _ (λ ss. goes_home rest k _ (written_home ss (target_values ts x)))
-
-    received_home : (ts : List Lvalue) (w : Wanted) (m : Message) (v : View) (rest : List Todo) → AtHome rest → HomeEffects (received ts w m v (λ ws. goes_on rest ws))
-    received_home ts w m v rest k = by_test (fits w m.written)
-      where
-        by_test : (b : Bool) → HomeEffects (cond b (assigned ts m.value v (λ ws. goes_on rest ws)) (fails fault.MessageType))
-        by_test true = assigned_home ts m.value v rest k
-        by_test false = (tt, tt)
-
-    first_of : (handed : Option Message) (ts : List Todo) → AtHome ts → AllByRecursion IsFramedTodo ts → HomeEffects (run_first d look p name handed ts)
-    first_of m [] h f = (tt, tt)
-    first_of m (Do t cs outer hidden ∷ rest) h f = run_home t h.0.0 f.0.0 cs h.0.1 f.0.1 outer hidden h.0.2 h.0.3 rest h.1
-    first_of m (Turn t scope ∷ rest) h f = run_home t h.0.0 f.0.0 t.calls (all_in t.calls) f.0.1 scope None h.0.1 tt rest h.1
-    first_of m (Turns at n b scope ∷ rest) h f = repeated_home at n b h.0.0 scope h.0.1 rest h.1
-    first_of m (Walk t i outer scope ∷ rest) h f = walked_home t h.0.0 t.form (inner t h.0.0) i outer scope h.0.1 h.0.2 rest h.1
-    first_of m (Walk_elements t n scope ∷ rest) h f = elements_home t h.0.0 t.form (inner t h.0.0) n scope h.0.1 rest h.1
-    first_of m (Start_children at cs j scope ∷ rest) h f = absurd f.0
-    first_of m (Leave at r ∷ rest) h f = left_home r (look r.callee) (look r.caller) rest h.1
-    first_of None (Receive at ts w scope ∷ rest) h f = goes_home rest h.1 [] tt
-    first_of (Some m) (Receive at ts w scope ∷ rest) h f = received_home ts w m (look scope) rest h.1
-    first_of m (Put at ts x scope ∷ rest) h f = assigned_home ts x (look scope) rest h.1
-
-  -- the effects of the next step
-  pub micro_home : (look : Looks) (p : ProcessId) (q : ProcessState) → slice_get ss p.0 ≡ Some s → AllByRecursion (IsHome d ss s) q.rest → AllByRecursion IsFramedTodo q.rest
-      → AllByRecursion (IsHomeEffect d ss s) (micro d look p q)
-  micro_home look p q mine h f = first_of look p (record { process = p; place = q.made }) mine q.handed q.rest h f

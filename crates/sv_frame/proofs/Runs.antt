@@ -1,5 +1,5 @@
 -- In each configuration that a run comes to, what a process has still to run stands in the bodies of its side.
-use Rattle.std.proofs.Common.{ℕ, ◌≡◌, ◌+◌, List, [], ◌∷◌, Option, None, Some, refl, ap, subst, sym, ◌∙◌, map, slice_get}
+use Rattle.std.proofs.Common.{ℕ, ◌≡◌, ◌+◌, List, [], ◌∷◌, ◌++◌, Option, None, Some, refl, ap, subst, sym, ◌∙◌, map, slice_get}
 use Rattle.std.specs.Prelude.{Result, Ok, Err, option_map}
 use Rattle.std.specs.List.{AllByRecursion}
 use Rattle.std.proofs.lemmas.Option.{slice_get-map}
@@ -29,7 +29,8 @@ use Rattle.sv_frame.proofs.Paths.{body_of_side}
 use Rattle.sv_frame.proofs.Heaps.{heaped, contained_heap}
 use Rattle.sv_frame.proofs.Scopes.{sides, IsEnclosed}
 use Rattle.sv_frame.proofs.MicroHome.{body_home}
-use Rattle.sv_frame.proofs.Homes.{IsHomeState, AllHome, BeginsWith, RunsHome, sides_of, in_at, some_same, after_home}
+use Rattle.sv_frame.proofs.Homes.{IsHomeState, AllHome, BeginsWith, RunsHome, sides_of, in_at, some_same}
+use Rattle.sv_frame.proofs.Grown.{Grown, begins_wider, after_grown}
 
 -- ---- the opening makes no activation
 
@@ -99,10 +100,18 @@ module _ (d : Parts) where
       by_process p q (Some f) e is =
           subst (IsHomeState d (sides_of d)) (some_same is) (body_home d (sides_of d) f.side f.body (body_of_side d f (in_at d.processes p.0 f e)) None tt)
 
+  -- there are sides of which the processes of a configuration are
+  pub record IsHomeOf (c : Config) : Type 0 where
+    pub all : List Side
+    pub begins : BeginsWith d all
+    pub home : AllHome d all c
+
+  grown_home : (ss : List Side) → BeginsWith d ss → (c : Config) → Grown d ss c → IsHomeOf c
+  grown_home ss b c g = record { all = ss ++ g.more; begins = begins_wider d ss g.more b; home = g.home }
+
   -- where each reached configuration lets its running process do such a step
-  pub legal_home : ((c : Config) → IsReached d c → AllHome d (sides_of d) c → RunsHome d (sides_of d) begins_with c) → (c : Config) (run : List Config) → IsLegal d (c ∷ run)
-      → AllHome d (sides_of d) c
-  legal_home w c [] l = subst (AllHome d (sides_of d)) (sym l) opening_home
+  pub legal_home : ((c : Config) → IsReached d c → (k : IsHomeOf c) → RunsHome d k.all k.begins c) → (c : Config) (run : List Config) → IsLegal d (c ∷ run) → IsHomeOf c
+  legal_home w c [] l = record { all = sides_of d; begins = begins_with; home = subst (AllHome d (sides_of d)) (sym l) opening_home }
   legal_home w c (e ∷ run) l =
       let h = legal_home w e run l.1 in
-      subst (AllHome d (sides_of d)) (sym l.0.2) (after_home d (sides_of d) begins_with e (w e (run, l.1) h) h l.0.0)
+      subst IsHomeOf (sym l.0.2) (grown_home h.all h.begins _ (after_grown d h.all h.begins e (w e (run, l.1) h) h.home l.0.0))

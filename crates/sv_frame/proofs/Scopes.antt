@@ -28,9 +28,9 @@ abbrev pub IsScope : List Side → Side → Option Name → Type 0
 IsScope ss s None = Unit {0}
 IsScope ss s (Some n) = slice_get ss n.process.0 ≡ Some s
 
--- an activation stands in a scope of the same side
+-- an activation of a process that there is stands in a scope of the same side
 abbrev pub IsEnclosed : List Side → Activation → Type 0
-IsEnclosed ss a = (s : Side) → slice_get ss a.name.process.0 ≡ Some s → IsScope ss s a.around
+IsEnclosed ss a = (s : Side) × (slice_get ss a.name.process.0 ≡ Some s) × IsScope ss s a.around
 
 some_same : {A : Type 0} {a b : A} → Some a ≡ Some b → a ≡ b
 some_same h = cc
@@ -153,4 +153,5 @@ module _ (d : Parts) (s : Side) (c e : Config) (r : SameReach d s c e) (ss : Lis
       by_found None f k = refl
       by_found (Some a) f k =
           let one = found_one (IsEnclosed ss) c.activations n a around f in
-          k a.around (one.0 s (ap (λ (p : ProcessId). slice_get ss p.0) (same_process a n one.1) ∙ h))
+          let same : one.0.0 ≡ s = some_same (sym one.0.1 ∙ ap (λ (p : ProcessId). slice_get ss p.0) (same_process a n one.1) ∙ h) in
+          k a.around (subst (λ s. IsScope ss s a.around) same one.0.2)

@@ -1,5 +1,5 @@
 -- What is due next, of a machine that stands for a configuration.
-use Rattle.std.proofs.Common.{ℕ, ◌≡◌, ◌+◌, ◌<◌, ◌≤◌, ◌^◌, ap, subst, sym, arith, length}
+use Rattle.std.proofs.Common.{ℕ, ◌≡◌, ◌+◌, ◌<◌, ◌≤◌, ◌^◌, ap, subst, sym, arith}
 use Rattle.std.specs.Prelude.{sum_by}
 use Rattle.std.specs.List.{AllByRecursion}
 use Rattle.sv_value.specs.declared.number.ProcessId.{ProcessId}
@@ -15,7 +15,7 @@ use Rattle.sv_kernel.specs.Future.{HoldsEvent}
 use Rattle.sv_kernel.proofs.ReleaseLemmas.{events_hold}
 
 module _ (d : Parts) (b : IsBuilt d) (m : Machine) (at : IsAt d m) where
-  weights : (w : ProcessId → ℕ) → sum_by w (standing m.regions) + sum_by (weight_of_event w) m.wheel.events ≤ weight_of_all w d
+  weights : (w : ProcessId → ℕ) → sum_by w (standing m.regions) + sum_by (weight_of_event w) m.wheel.events ≤ weight_of_all w at.config.processes
   weights w =
       let c = at.config in
       let h = at.stands.sound.weights w in
@@ -26,14 +26,14 @@ module _ (d : Parts) (b : IsBuilt d) (m : Machine) (at : IsAt d m) where
   pub room : sum_by ones (standing m.regions) + sum_by (weight_of_event ones) m.wheel.events < 2 ^ 31
   room =
       let w = weights ones in
-      let a = all_count d in
-      let f : length d.processes < 2 ^ 18 = b.few_processes in
+      let a = all_count at.config.processes in
+      let f = at.stands.sound.related.few in
       omega (arith, w, a, f)
 
   pub once_only : (p : ProcessId) → sum_by (one p) (standing m.regions) + sum_by (weight_of_event (one p)) m.wheel.events ≤ 1
   once_only p =
       let w = weights (one p) in
-      let l = once p 0 d.processes in
+      let l = once p 0 at.config.processes in
       omega (arith, w, l)
 
   pub each_holds : AllByRecursion HoldsEvent m.wheel.events

@@ -32,6 +32,7 @@ pub with_regions : (d : Parts) (m : Machine) (c : Config) (r q : Regions) → St
 with_regions d m c r q s e = record {
   picture = (λ i. record (of_machine d m) { regions = e i }) ∙ ap (λ (u : Picture). record u { regions = q }) s.picture;
   covers = s.covers;
+  alive = s.alive;
   last = s.last;
 }
 

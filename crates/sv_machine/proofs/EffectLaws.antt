@@ -21,6 +21,7 @@ use Rattle.sv_flat.specs.declared.design.Parts.{Parts}
 use Rattle.sv_flat.specs.Process
 use Rattle.sv_flat.specs.Process.{ProcessState, Status, Ready, Running, Waiting, Moment, Turn_in_slot, Watches, Children, Queue, Start, Todo, Effect, Remain, Write, Suspend, Resume_at, Update_at, Print_text, Keep_print, Finish_run, End, Fail, body_in}
 use Rattle.sv_flat.specs.Config.{Config, process_at, met_fault}
+use Rattle.sv_flat.specs.Effects.Ends.{is_ended}
 use Rattle.sv_flat.specs.Effects.Scheduling.{update_scheduled}
 use Rattle.sv_built.specs.declared.wait.Wait.{Wait}
 use Rattle.sv_built.specs.declared.wait.Wait.TheVariants as wait
@@ -29,16 +30,19 @@ use Rattle.sv_built.specs.Waits.{watches_at}
 use Rattle.sv_sound.specs.Sound.{is_parked}
 use Rattle.sv_sound.specs.After.{entered_by, with_state, remaining, waiting_until, turned, watching, over, recorded, strobe_kept}
 use Rattle.sv_sound.proofs.Weights.{there, map_at, map_set_same}
-use Rattle.sv_sound.proofs.EffectSound.{running_known, runs_calm, found}
+use Rattle.sv_sound.proofs.Running.{running_known, runs_calm}
+use Rattle.sv_fork.specs.Tree.{Member, ended_in, is_over_in, join_of, member_of, member_test}
+use Rattle.sv_fork.specs.Tree as tree
 use Rattle.sv_process.specs.Frames.{todos_of}
 use Rattle.sv_sense.specs.Sensed.{Covers}
 use Rattle.sv_machine.specs.declared.machine.Machine.{Machine}
 use Rattle.sv_machine.specs.declared.machine.Kept.{Kept}
 use Rattle.sv_machine.specs.Waits.{awaited, awaited_at, awaited_by}
-use Rattle.sv_machine.specs.Machine.{Picture, of_machine, of_config, Tracks, StandsFor, rest_of, was_taken, made_of, printing, strobe_of, strobe_at}
-use Rattle.sv_machine.specs.Wakes.{side_at, side_in_design}
+use Rattle.sv_machine.specs.Machine.{Picture, of_machine, of_config, IsAlive, Tracks, StandsFor, rest_of, was_taken, made_of, printing, strobe_of, strobe_at}
+use Rattle.sv_machine.specs.Wakes.{side_at}
 use Rattle.sv_arena.specs.Made.{entered}
 use Rattle.sv_machine.specs.Steps.{turned_in, WaitsFor, resuming_at, updating_at, Remains, IsOver, WaitsAgain}
+use Rattle.sv_machine.proofs.FamilyLaws.{family_is, side_is}
 use Rattle.sv_machine.proofs.WakeLaws.{pending_by_taken}
 
 -- ---- lists
@@ -64,6 +68,17 @@ not_awaited (Waiting (Children all ps)) h = refl
 not_awaited (Waiting Queue) h = refl
 not_awaited (Waiting Start) h = refl
 
+pub not_joined : (s : Status) → is_parked s ≡ false → join_of s ≡ None
+not_joined Ready h = refl
+not_joined Running h = refl
+not_joined Process.Ended h = refl
+not_joined (Waiting Moment) h = refl
+not_joined (Waiting Turn_in_slot) h = refl
+not_joined (Waiting (Watches ws scope)) h = refl
+not_joined (Waiting (Children all ps)) h = absurd (cc)
+not_joined (Waiting Queue) h = refl
+not_joined (Waiting Start) h = refl
+
 -- ---- the process that runs
 
 module _ (d : Parts) (m : Machine) (c : Config) (h : StandsFor d m c) (p : ProcessId) (r : m.running ≡ Some p) where
@@ -80,17 +95,38 @@ module _ (d : Parts) (m : Machine) (c : Config) (h : StandsFor d m c) (p : Proce
     calm : awaited_by q ≡ None
     calm = not_awaited q.latest (runs_calm d c h.sound p running_is q is)
 
-    pub side_of_state : side_at d p ≡ q.side
-    side_of_state = let f = found d c h.sound p q is in ap side_in_design f.at ∙ sym f.state.side
+    pub side_of_state : side_at m.tree p ≡ q.side
+    side_of_state = side_is d m c same p q is
+
+    -- it is not over, and waits for no children
+    pub lives : is_ended q.latest ≡ false
+    lives =
+        sym (ap (λ (ms : List Member). member_test (λ x. x.over) (slice_get ms p.0)) (family_is d m c same) ∙ ap (member_test (λ x. x.over)) (map_at member_of c.processes p.0 q is))
+        ∙ alive m.running r h.stands.alive
+      where
+        alive : (o : Option ProcessId) → o ≡ Some p → IsAlive m.tree o → is_over_in m.tree p ≡ false
+        alive None e k = absurd (cc)
+        alive (Some x) e k = let z : x.0 ≡ p.0 = ap (λ (y : ProcessId). y.0) (let y : x ≡ p = cc in y) in ap (λ i. is_over_in m.tree (record { 0 = i })) (sym z) ∙ k
+
+    pub waits_for_none : join_of q.latest ≡ None
+    waits_for_none = not_joined q.latest (runs_calm d c h.sound p running_is q is)
+
+    -- the same for the tree in another state
+    member_stays : (v : ProcessState) → v.side ≡ q.side → v.parent ≡ q.parent → is_ended v.latest ≡ false → join_of v.latest ≡ None → member_of v ≡ member_of q
+    member_stays v a b e f = λ i. record { side = a i; parent = b i; over = (e ∙ sym lives) i; join = (f ∙ sym waits_for_none) i }
+
+    pub family_same : (v : ProcessState) → member_of v ≡ member_of q → slice_set (map member_of c.processes) p.0 (member_of v) ≡ map member_of c.processes
+    family_same v e = ap (slice_set (map member_of c.processes) p.0) e ∙ set_same (map member_of c.processes) p.0 (member_of q) (map_at member_of c.processes p.0 q is)
 
     -- the process in another state
     pub state_picture : (v : ProcessState) → v.was_taken ≡ q.was_taken → v.made ≡ q.made → of_config d (with_state p v c)
-        ≡ record (of_config d c) { remaining = slice_set (map rest_of c.processes) p.0 v.rest; waiting = slice_set (map awaited_by c.processes) p.0 (awaited_by v) }
+        ≡ record (of_config d c) { family = slice_set (map member_of c.processes) p.0 (member_of v); remaining = slice_set (map rest_of c.processes) p.0 v.rest; waiting = slice_set (map awaited_by c.processes) p.0 (awaited_by v) }
     state_picture v e f =
         let k = map_set_same made_of c.processes p.0 q v is f in
         let t = map_set_same was_taken c.processes p.0 q v is e in
         let n = pending_by_taken d.processes c.processes (slice_set c.processes p.0 v) t in
         λ i. record (of_config d c) {
+          family = map_set member_of c.processes p.0 v i;
           made = k i;
           remaining = map_set rest_of c.processes p.0 v i;
           waiting = map_set awaited_by c.processes p.0 v i;
@@ -98,23 +134,30 @@ module _ (d : Parts) (m : Machine) (c : Config) (h : StandsFor d m c) (p : Proce
           starters = n i;
         }
 
-    rest_stays : slice_set (map rest_of c.processes) p.0 q.rest ≡ map rest_of c.processes
+    -- in which it is the same for the tree
+    pub plain_picture : (v : ProcessState) → v.was_taken ≡ q.was_taken → v.made ≡ q.made → member_of v ≡ member_of q → of_config d (with_state p v c)
+        ≡ record (of_config d c) { remaining = slice_set (map rest_of c.processes) p.0 v.rest; waiting = slice_set (map awaited_by c.processes) p.0 (awaited_by v) }
+    plain_picture v e f k =
+        state_picture v e f
+        ∙ (λ i. record (of_config d c) { family = family_same v k i; remaining = slice_set (map rest_of c.processes) p.0 v.rest; waiting = slice_set (map awaited_by c.processes) p.0 (awaited_by v) })
+
+    pub rest_stays : slice_set (map rest_of c.processes) p.0 q.rest ≡ map rest_of c.processes
     rest_stays = set_same (map rest_of c.processes) p.0 q.rest (map_at rest_of c.processes p.0 q is)
 
-    waits_stay : slice_set (map awaited_by c.processes) p.0 None ≡ map awaited_by c.processes
+    pub waits_stay : slice_set (map awaited_by c.processes) p.0 None ≡ map awaited_by c.processes
     waits_stay = ap (slice_set (map awaited_by c.processes) p.0) (sym calm) ∙ set_same (map awaited_by c.processes) p.0 (awaited_by q) (map_at awaited_by c.processes p.0 q is)
 
     -- a state that differs in nothing that is kept
-    pub still_picture : (s : Status) → awaited s ≡ None → of_config d (with_state p (record q { latest = s }) c) ≡ of_config d c
-    still_picture s e =
+    pub still_picture : (s : Status) → awaited s ≡ None → is_ended s ≡ false → join_of s ≡ None → of_config d (with_state p (record q { latest = s }) c) ≡ of_config d c
+    still_picture s e f g =
         let v : ProcessState = record q { latest = s } in
-        state_picture v refl refl
+        plain_picture v refl refl (member_stays v refl refl f g)
         ∙ (λ i. record (of_config d c) { remaining = rest_stays i; waiting = slice_set (map awaited_by c.processes) p.0 (e i) })
         ∙ (λ i. record (of_config d c) { waiting = waits_stay i })
 
     -- ---- waits
 
-    pub turn_tracks : (s : Side) → s ≡ side_at d p → Tracks d (turned_in p s m) (turned p q c)
+    pub turn_tracks : (s : Side) → s ≡ side_at m.tree p → Tracks d (turned_in p s m) (turned p q c)
     turn_tracks s e =
         let v : ProcessState = record q { latest = Waiting Turn_in_slot } in
         let k : s ≡ q.side = e ∙ side_of_state in
@@ -123,8 +166,9 @@ module _ (d : Parts) (m : Machine) (c : Config) (h : StandsFor d m c) (p : Proce
           fault = h.fault;
           going = λ g. record {
             picture = (λ i. record (same i) { running = None; regions = ready_in (idle_of (k i)) p (same i).regions })
-                ∙ (λ i. record (sym (still_picture (Waiting Turn_in_slot) refl) i) { running = None; regions = ready_in (idle_of q.side) p c.regions });
+                ∙ (λ i. record (sym (still_picture (Waiting Turn_in_slot) refl refl refl) i) { running = None; regions = ready_in (idle_of q.side) p c.regions });
             covers = h.stands.covers;
+            alive = tt;
             last = h.stands.last;
           };
         }
@@ -141,8 +185,9 @@ module _ (d : Parts) (m : Machine) (c : Config) (h : StandsFor d m c) (p : Proce
                 ∙ (λ i. record (of_machine d m) { running = None; waiting = map_set (awaited_at d) m.sense.waits p.0 (Some w) i })
                 ∙ (λ i. record (same i) { running = None; waiting = slice_set (same i).waiting p.0 (awaited_at d (Some w)) })
                 ∙ (λ i. record (of_config d c) { running = None; remaining = rest_stays' i; waiting = slice_set (map awaited_by c.processes) p.0 (awaited_by v) })
-                ∙ (λ i. record (sym (state_picture v refl refl) i) { running = None });
+                ∙ (λ i. record (sym (plain_picture v refl refl (member_stays v refl refl refl refl)) i) { running = None });
             covers = k.covers;
+            alive = subst (λ (x : Machine). IsAlive x.tree x.running) (sym k.is) tt;
             last = (let a = ap (λ (x : Machine). x.wheel.last) k.is in let b = ap (λ (x : Machine). x.time) k.is in let l = h.stands.last in omega (arith, a, b, l));
           };
         }
@@ -150,7 +195,7 @@ module _ (d : Parts) (m : Machine) (c : Config) (h : StandsFor d m c) (p : Proce
         rest_stays' : map rest_of c.processes ≡ slice_set (map rest_of c.processes) p.0 q.rest
         rest_stays' = sym rest_stays
 
-    pub resume_tracks : (s : Side) (t : ℕ) → s ≡ side_at d p → Tracks d (resuming_at p s t m) (waiting_until p q t c)
+    pub resume_tracks : (s : Side) (t : ℕ) → s ≡ side_at m.tree p → Tracks d (resuming_at p s t m) (waiting_until p q t c)
     resume_tracks s t e =
         let k : s ≡ q.side = e ∙ side_of_state in
         record {
@@ -158,13 +203,17 @@ module _ (d : Parts) (m : Machine) (c : Config) (h : StandsFor d m c) (p : Proce
           fault = h.fault;
           going = λ g. record {
             picture = (λ i. record (same i) { running = None; future = (same i).future ++ record { time = t; region = front_of (k i); due = Resume p } ∷ [] })
-                ∙ (λ i. record (sym (still_picture (Waiting Moment) refl) i) { running = None; future = c.future ++ record { time = t; region = front_of q.side; due = Resume p } ∷ [] });
+                ∙ (λ i. record (sym (still_picture (Waiting Moment) refl refl refl) i) { running = None; future = c.future ++ record { time = t; region = front_of q.side; due = Resume p } ∷ [] });
             covers = h.stands.covers;
+            alive = tt;
             last = h.stands.last;
           };
         }
 
     -- ---- the end of a body
+
+    family_ends : ended_in p (map member_of c.processes) ≡ slice_set (map member_of c.processes) p.0 (member_of (record q { latest = Process.Ended; rest = [] }))
+    family_ends = ap (λ o. tree.changed_in o (λ x. record x { over = true; join = None }) p (map member_of c.processes)) (map_at member_of c.processes p.0 q is)
 
     pub over_tracks : (n : Machine) → IsOver d p m n → Tracks d n (over p q c)
     over_tracks n k =
@@ -174,10 +223,11 @@ module _ (d : Parts) (m : Machine) (c : Config) (h : StandsFor d m c) (p : Proce
           fault = ap (λ (x : Machine). x.fault) k.is ∙ h.fault;
           going = λ g. record {
             picture = ap (of_machine d) k.is
-                ∙ (λ i. record (of_machine d m) { running = None; remaining = k.left.remaining i })
-                ∙ (λ i. record (same i) { running = None; remaining = slice_set (same i).remaining p.0 [] })
-                ∙ (λ i. record (of_config d c) { running = None; remaining = slice_set (map rest_of c.processes) p.0 []; waiting = sym waits_stay i })
+                ∙ (λ i. record (of_machine d m) { running = None; family = ended_in p m.tree; remaining = k.left.remaining i })
+                ∙ (λ i. record (same i) { running = None; family = ended_in p (same i).family; remaining = slice_set (same i).remaining p.0 [] })
+                ∙ (λ i. record (of_config d c) { running = None; family = family_ends i; remaining = slice_set (map rest_of c.processes) p.0 []; waiting = sym waits_stay i })
                 ∙ (λ i. record (sym (state_picture v refl refl) i) { running = None });
+            alive = subst (λ (x : Machine). IsAlive x.tree x.running) (sym k.is) tt;
             covers = subst (Covers d) (sym (ap (λ (x : Machine). x.sense) k.is)) h.stands.covers;
             last = (let a = ap (λ (x : Machine). x.wheel.last) k.is in let b = ap (λ (x : Machine). x.time) k.is in let l = h.stands.last in omega (arith, a, b, l));
           };
@@ -194,7 +244,8 @@ module _ (d : Parts) (m : Machine) (c : Config) (h : StandsFor d m c) (p : Proce
                 ∙ (λ i. record (of_machine d m) { remaining = l.remaining i })
                 ∙ (λ i. record (same i) { remaining = slice_set (same i).remaining p.0 rest })
                 ∙ (λ i. record (of_config d c) { remaining = slice_set (map rest_of c.processes) p.0 rest; waiting = sym (waits_still) i })
-                ∙ sym (state_picture v refl refl);
+                ∙ sym (plain_picture v refl refl refl);
+            alive = subst (λ (x : Machine). IsAlive x.tree x.running) (sym k) h.stands.alive;
             covers = subst (Covers d) (sym (ap (λ (x : Machine). x.sense) k)) h.stands.covers;
             last = (let a = ap (λ (x : Machine). x.wheel.last) k in let b = ap (λ (x : Machine). x.time) k in let l = h.stands.last in omega (arith, a, b, l));
           };
@@ -215,8 +266,9 @@ module _ (d : Parts) (m : Machine) (c : Config) (h : StandsFor d m c) (p : Proce
                 ∙ (λ i. record (of_machine d m) { running = None; remaining = k.left.remaining i; waiting = map (awaited_at d) (k.waits i) })
                 ∙ (λ i. record (of_machine d m) { running = None; remaining = slice_set (map (todos_of d) m.processes.items) p.0 (body_in d f.body None); waiting = map_set (awaited_at d) m.sense.waits p.0 (Some (wait.Watched p)) i })
                 ∙ (λ i. record (same i) { running = None; remaining = slice_set (same i).remaining p.0 (body_in d f.body None); waiting = slice_set (same i).waiting p.0 (Some (e i)) })
-                ∙ (λ i. record (sym (state_picture v refl refl) i) { running = None });
+                ∙ (λ i. record (sym (plain_picture v refl refl (member_stays v refl refl refl refl)) i) { running = None });
             covers = k.covers;
+            alive = subst (λ (x : Machine). IsAlive x.tree x.running) (sym k.is) tt;
             last = (let a = ap (λ (x : Machine). x.wheel.last) k.is in let b = ap (λ (x : Machine). x.time) k.is in let l = h.stands.last in omega (arith, a, b, l));
           };
         }
@@ -238,7 +290,9 @@ module _ (d : Parts) (m : Machine) (c : Config) (h : StandsFor d m c) (p : Proce
         let w = map_set_same awaited_by c.processes p.0 q v is refl in
         let t = map_set_same was_taken c.processes p.0 q v is refl in
         let n = pending_by_taken d.processes c.processes (slice_set c.processes p.0 v) t in
+        let f = map_set_same member_of c.processes p.0 q v is refl in
         λ i. record (of_config d (entered_by p q ts around c)) {
+          family = f i;
           made = map_set made_of c.processes p.0 v i;
           remaining = a i;
           waiting = w i;
@@ -261,13 +315,14 @@ module _ (d : Parts) (m : Machine) (c : Config) (h : StandsFor d m c) (p : Proce
                 ∙ (λ i. record (of_config d c) { activations = c.activations ++ one (made_is i) ∷ []; made = slice_set (map made_of c.processes) p.0 (made_is i + 1) })
                 ∙ sym (entered_picture ts around);
             covers = h.stands.covers;
+            alive = h.stands.alive;
             last = h.stands.last;
           };
         }
 
     -- ---- what is scheduled
 
-    pub update_tracks : (s : Side) (t : ℕ) (j : Job) → s ≡ side_at d p → Tracks d (updating_at s t j m) (update_scheduled q.side t j c)
+    pub update_tracks : (s : Side) (t : ℕ) (j : Job) → s ≡ side_at m.tree p → Tracks d (updating_at s t j m) (update_scheduled q.side t j c)
     update_tracks s t j e = subst (λ (x : Side). Tracks d (updating_at s t j m) (update_scheduled x t j c)) (e ∙ side_of_state) by_moment
       where
         moment : (t == m.time) ≡ (t == c.time)
@@ -285,6 +340,7 @@ module _ (d : Parts) (m : Machine) (c : Config) (h : StandsFor d m c) (p : Proce
           going = λ g. record {
             picture = λ i. record (same i) { regions = job_in (updates_of s) j (same i).regions };
             covers = h.stands.covers;
+            alive = h.stands.alive;
             last = h.stands.last;
           };
         }
@@ -294,6 +350,7 @@ module _ (d : Parts) (m : Machine) (c : Config) (h : StandsFor d m c) (p : Proce
           going = λ g. record {
             picture = λ i. record (same i) { future = (same i).future ++ record { time = t; region = updates_of s; due = Work j } ∷ [] };
             covers = h.stands.covers;
+            alive = h.stands.alive;
             last = h.stands.last;
           };
         }
@@ -305,9 +362,9 @@ module _ (d : Parts) (m : Machine) (c : Config) (h : StandsFor d m c) (p : Proce
     -- ---- what is printed, the end of a run, and faults
 
     pub print_tracks : (t : List ℕ) → Tracks d m (recorded q t c)
-    print_tracks t = record { time = ap (λ (x : Picture). x.time) same; fault = h.fault; going = λ g. record { picture = same; covers = h.stands.covers; last = h.stands.last } }
+    print_tracks t = record { time = ap (λ (x : Picture). x.time) same; fault = h.fault; going = λ g. record { picture = same; covers = h.stands.covers; alive = h.stands.alive; last = h.stands.last } }
 
-    pub strobe_tracks : (n : Machine) (k : Kept) → n ≡ record m { strobes = n.strobes } → n.strobes.items ≡ m.strobes.items ++ k ∷ [] → k.side ≡ side_at d p
+    pub strobe_tracks : (n : Machine) (k : Kept) → n ≡ record m { strobes = n.strobes } → n.strobes.items ≡ m.strobes.items ++ k ∷ [] → k.side ≡ side_at m.tree p
         → Tracks d n (strobe_kept (record (strobe_at d k) { side = q.side }) c)
     strobe_tracks n k e l s =
         record {
@@ -318,6 +375,7 @@ module _ (d : Parts) (m : Machine) (c : Config) (h : StandsFor d m c) (p : Proce
                 ∙ (λ i. record (of_machine d m) { strobes = map (strobe_at d) (l i) })
                 ∙ (λ i. record (of_machine d m) { strobes = map-append (strobe_at d) m.strobes.items (k ∷ []) i })
                 ∙ (λ i. record (same i) { strobes = (same i).strobes ++ sided i ∷ [] });
+            alive = subst (λ (x : Machine). IsAlive x.tree x.running) (sym e) h.stands.alive;
             covers = subst (Covers d) (sym (ap (λ (x : Machine). x.sense) e)) h.stands.covers;
             last = (let a = ap (λ (x : Machine). x.wheel.last) e in let b = ap (λ (x : Machine). x.time) e in let l = h.stands.last in omega (arith, a, b, l));
           };
@@ -341,7 +399,7 @@ module _ (d : Parts) (m : Machine) (c : Config) (h : StandsFor d m c) (p : Proce
     finish_tracks = record {
       time = ap (λ (x : Picture). x.time) same;
       fault = h.fault;
-      going = λ g. record { picture = λ i. record (same i) { finishing = true }; covers = h.stands.covers; last = h.stands.last };
+      going = λ g. record { picture = λ i. record (same i) { finishing = true }; covers = h.stands.covers; alive = h.stands.alive; last = h.stands.last };
     }
 
     pub fail_tracks : (k : FaultKind) (at : Place) → Tracks d (record m { fault = Some (record { kind = k; at = at; time = m.time }) }) (met_fault k at c)

@@ -1,6 +1,6 @@
 -- The end of a body.
-use Rattle.std.proofs.Common.{ℕ, ◌≡◌, List, None, Some, refl, ap, subst, sym, ◌∙◌, ◌⊎◌, ⊎_elim, map, slice_set}
-use Rattle.std.specs.Prelude.{get_or}
+use Rattle.std.proofs.Common.{ℕ, ◌≡◌, ◌<◌, length, List, None, Some, refl, ap, subst, sym, ◌∙◌, ◌⊎◌, ⊎_elim, map, slice_set}
+use Rattle.std.specs.Prelude.{Result, Ok, Err, OnOk, get_or}
 use Rattle.sv_value.specs.declared.number.ProcessId.{ProcessId}
 use Rattle.sv_value.specs.declared.place.Place.{Place}
 use Rattle.sv_flat.specs.declared.process.Process.{Process}
@@ -12,9 +12,9 @@ use Rattle.sv_flat.specs.Config.{Config, process_at, first_process}
 use Rattle.sv_flat.specs.Effects.{occurred}
 use Rattle.sv_built.specs.Built.{IsBuilt}
 use Rattle.sv_built.specs.Waits.{watched_by}
-use Rattle.sv_sound.proofs.Weights.{got}
+use Rattle.sv_sound.proofs.Weights.{got, there, within}
 use Rattle.sv_sound.proofs.Occurs.{end_initial, end_always, end_always_ff, end_always_comb, end_assign, end_port}
-use Rattle.sv_sound.proofs.EffectSound.{ended_is}
+use Rattle.sv_sound.proofs.Running.{ended_is}
 use Rattle.sv_process.specs.declared.frames.Frame.{Frame}
 use Rattle.sv_process.specs.Frames.{todos_of}
 use Rattle.sv_machine.specs.declared.machine.Machine.{Machine}
@@ -48,6 +48,18 @@ module _ (d : Parts) (b : IsBuilt d) (at : Place) (p : ProcessId) (m : Machine) 
 
   pub end_tracks : (f : Process) → first_process d p ≡ Some f → f.program ≡ None → EndsAs d f p f.kind m n → Tracks d n (occurred d at p End c)
   end_tracks f e g x = by_kind f e g f.kind refl x
+
+-- the processes of the design are those with less numbers
+pub first_there : (d : Parts) (p : ProcessId) → p.0 < length d.processes → (f : Process) × (first_process d p ≡ Some f)
+first_there d p l = there d.processes p.0 l
+
+pub first_not : (d : Parts) (p : ProcessId) (f : Process) → first_process d p ≡ Some f → p.0 < length d.processes
+first_not d p f e = within d.processes p.0 f e
+
+-- of what was told in two clauses
+pub both_given : {A E : Type 0} (r : Result A E) (P Q R : Type 0) → (P → Q → R) → OnOk r P → OnOk r Q → OnOk r R
+both_given (Ok x) P Q R go h k = go h k
+both_given (Err e) P Q R go h k = h
 
 pub initial_ends : (d : Parts) (f : Process) (p : ProcessId) (k : ProcessKind) (m n : Machine) → k ≡ kind.Initial → IsOver d p m n → EndsAs d f p k m n
 initial_ends d f p k m n e x = subst (λ k. EndsAs d f p k m n) (sym e) x

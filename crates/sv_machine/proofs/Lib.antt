@@ -1,8 +1,11 @@
+pub mod FamilyLaws
 pub mod ReadyLaws
 pub mod WakeLaws
 pub mod WriteLaws
 pub mod EffectLaws
 pub mod EndLaws
+pub mod ForkLaws
+pub mod EndedLaws
 pub mod OccurLaws
 pub mod StepLaws
 pub mod StartLaws

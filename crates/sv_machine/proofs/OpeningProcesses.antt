@@ -1,5 +1,6 @@
 -- The processes of an opening.
-use Rattle.std.proofs.Common.{ℕ, suc, ◌≡◌, ◌+◌, ◌<◌, List, [], ◌∷◌, Option, None, Bool, true, false, cond, refl, ap, sym, ◌∙◌, arith, length, drop, get_or, map, drop-cons}
+use Rattle.std.proofs.Common.{ℕ, suc, ◌≡◌, ◌+◌, ◌<◌, ◌≤◌, List, [], ◌∷◌, ◌++◌, Option, None, Bool, true, false, cond, refl, ap, sym, ◌∙◌, arith, length, drop, get_or, map, drop-cons, take}
+use Rattle.std.proofs.lemmas.List.{take_more, length-take-le, length-map, map-append}
 use Rattle.std.specs.Prelude.{replicate, ◌&&◌, ◌||◌, if◌then◌else◌}
 use Rattle.std.specs.List.{list_any}
 use Rattle.sv_flat.specs.declared.process.Process.{Process}
@@ -7,13 +8,15 @@ use Rattle.sv_flat.specs.declared.process.Watch.{Watch}
 use Rattle.sv_flat.specs.declared.design.Parts.{Parts}
 use Rattle.sv_flat.specs.Process.{Todo, Ready, Waiting, Start, body_in}
 use Rattle.sv_flat.specs.Config.{starts, is_always_comb}
+use Rattle.sv_flat.specs.Effects.Ends.{is_ended}
 use Rattle.sv_flat.specs.Opening.{opening_process}
 use Rattle.sv_sound.specs.Sound.{pending_count}
+use Rattle.sv_fork.specs.Tree.{Member, join_of, member_of}
 use Rattle.sv_process.specs.declared.frames.Frame.TheVariants.{Rest}
 use Rattle.sv_process.specs.Frames.{todos_of}
 use Rattle.sv_machine.specs.Machine.{rest_of, was_taken, made_of}
 use Rattle.sv_machine.specs.Waits.{awaited, awaited_at, awaited_by}
-use Rattle.sv_machine.specs.Opening.{starter_count}
+use Rattle.sv_machine.specs.Opening.{first_member, starter_count}
 
 module _ (d : Parts) where
   beginning : (f : Process) → todos_of d (Rest (record { routine = f.body; place = 0 }) None ∷ []) ≡ body_in d f.body None
@@ -28,6 +31,20 @@ module _ (d : Parts) where
   pub opening_taken : (fs : List Process) → map (λ f. false) fs ≡ map was_taken (map (opening_process d) fs)
   opening_taken [] = refl
   opening_taken (f ∷ fs) = ap (λ (bs : List Bool). false ∷ bs) (opening_taken fs)
+
+  -- each on its side, which no process forked; none waits for children
+  pub opening_family : (fs : List Process) → map first_member fs ≡ map member_of (map (opening_process d) fs)
+  opening_family [] = refl
+  opening_family (f ∷ fs) =
+      λ i. record { side = f.side; parent = None; over = not_over (is_always_comb f.kind && list_any starts d.processes) i; join = no_join (is_always_comb f.kind && list_any starts d.processes) i } ∷ opening_family fs i
+    where
+      not_over : (b : Bool) → false ≡ is_ended (if b then Waiting Start else Ready)
+      not_over true = refl
+      not_over false = refl
+
+      no_join : (b : Bool) → None ≡ join_of (if b then Waiting Start else Ready)
+      no_join true = refl
+      no_join false = refl
 
   -- nobody made an activation
   pub opening_made : (fs : List Process) → replicate (length fs) 0 ≡ map made_of (map (opening_process d) fs)
@@ -52,6 +69,15 @@ module _ (d : Parts) where
   pub opening_starters : (fs : List Process) → starter_count fs ≡ pending_count fs (map (opening_process d) fs)
   opening_starters [] = refl
   opening_starters (f ∷ fs) = ap (λ (n : ℕ). (if starts f then 1 else 0) + n) (opening_starters fs) ∙ and_true (starts f) (pending_count fs (map (opening_process d) fs))
+
+-- ---- the tree, one process after another
+
+pub family_so_far : (fs : List Process) (i : ℕ) (ms : List Member) → i ≤ length fs → ms ≡ map first_member (take i fs) → length ms ≡ i
+family_so_far fs i ms l e = ap (λ (xs : List Member). length xs) e ∙ length-map (take i fs) first_member ∙ length-take-le i fs l
+
+pub family_more : (fs : List Process) (i : ℕ) (f : Process) → i < length fs → get_or fs i f ≡ f
+    → map first_member (take i fs) ++ first_member f ∷ [] ≡ map first_member (take (i + 1) fs)
+family_more fs i f l e = sym (ap (map first_member) (take_more fs i f l ∙ ap (λ (g : Process). take i fs ++ g ∷ []) e) ∙ map-append first_member (take i fs) (f ∷ []))
 
 -- ---- one process more
 

@@ -8,75 +8,67 @@ use Rattle.sv_value.specs.declared.number.ProcessId.{ProcessId}
 use Rattle.sv_value.specs.declared.schedule.Side.{Side}
 use Rattle.sv_value.specs.declared.schedule.Side.TheVariants.{Active, Reactive}
 use Rattle.sv_value.specs.Regions.{Regions, ready_in, front_of, standing}
-use Rattle.sv_flat.specs.declared.process.Process.{Process}
-use Rattle.sv_flat.specs.declared.design.Parts.{Parts}
 use Rattle.sv_sched.specs.Lists.{HoldsProcesses}
+use Rattle.sv_fork.specs.Tree.{Member}
 use Rattle.sv_sound.specs.Sound.{weight_of_all}
-use Rattle.sv_sound.proofs.Weights.{one, one_self, once, not_contained, ready_weight, there, got}
+use Rattle.sv_sound.proofs.Weights.{one, one_self, once, not_contained, ready_weight}
 use Rattle.sv_sound.proofs.Room.{ones, all_count, count_processes}
-use Rattle.sv_machine.specs.Wakes.{IsKnown, side_at, side_in_design, all_ready}
+use Rattle.sv_machine.specs.Wakes.{IsKnown, side_at, all_ready}
 
 -- these processes may become ready
-pub record MayReady (d : Parts) (ps : List ProcessId) (r : Regions) : Type 0 where
-  pub known : AllByRecursion (IsKnown (length d.processes)) ps
-  pub weights : (w : ProcessId → ℕ) → sum_by w (standing r) + sum_by w ps ≤ weight_of_all w d
+pub record MayReady (ms : List Member) (ps : List ProcessId) (r : Regions) : Type 0 where
+  pub known : AllByRecursion (IsKnown (length ms)) ps
+  pub weights : (w : ProcessId → ℕ) → sum_by w (standing r) + sum_by w ps ≤ weight_of_all w ms
 
 pub holds_front : (s : Side) → HoldsProcesses (front_of s)
 holds_front Active = tt
 holds_front Reactive = tt
 
-module _ (d : Parts) (p : ProcessId) (ps : List ProcessId) (r : Regions) (h : MayReady d (p ∷ ps) r) where
+module _ (ms : List Member) (p : ProcessId) (ps : List ProcessId) (r : Regions) (h : MayReady ms (p ∷ ps) r) where
   pub may_absent : ¬ Contains (standing r) p
   may_absent c =
       let w = h.weights (one p) in
       let s = sum_by-cons (one p) p ps in
       let o = one_self p in
-      let m = once p 0 d.processes in
+      let m = once p 0 ms in
       not_contained p (standing r) (omega (arith, w, s, o, m)) c
 
-  pub may_more : MayReady d ps (ready_in (front_of (side_at d p)) p r)
+  pub may_more : MayReady ms ps (ready_in (front_of (side_at ms p)) p r)
   may_more = record {
     known = h.known.1;
-    weights = λ w. (let a = h.weights w in let s = sum_by-cons w p ps in let b = ready_weight w (front_of (side_at d p)) p r in omega (arith, a, s, b));
+    weights = λ w. (let a = h.weights w in let s = sum_by-cons w p ps in let b = ready_weight w (front_of (side_at ms p)) p r in omega (arith, a, s, b));
   }
 
-pub may_few : (d : Parts) (ps : List ProcessId) (r : Regions) → MayReady d ps r → length d.processes < 2 ^ 18 → length (standing r) < 2 ^ 31
-may_few d ps r h few =
+pub may_few : (ms : List Member) (ps : List ProcessId) (r : Regions) → MayReady ms ps r → length ms ≤ 2 ^ 18 → length (standing r) < 2 ^ 31
+may_few ms ps r h few =
     let w = h.weights ones in
-    let a = all_count d in
+    let a = all_count ms in
     let c = count_processes (standing r) in
     omega (arith, w, a, c, few)
-
--- the side of a process, by its number
-pub side_is : (d : Parts) (p : ProcessId) (f : Process) → p.0 < length d.processes → get_or d.processes p.0 f ≡ f → f.side ≡ side_at d p
-side_is d p f l e =
-    let k = there d.processes p.0 l in
-    let same : f ≡ k.0 = sym e ∙ got d.processes p.0 k.0 f k.1 in
-    ap (λ (g : Process). g.side) same ∙ sym (ap side_in_design k.1)
 
 -- one of the processes of a list, and those behind it
 pub next_is : (ps : List ProcessId) (i : ℕ) (p : ProcessId) → i < length ps → get_or ps i p ≡ p → drop i ps ≡ p ∷ drop (i + 1) ps
 next_is ps i p l e = drop_more ps i p l ∙ ap (λ (q : ProcessId). q ∷ drop (i + 1) ps) e
 
 -- so far, of a list of processes that become ready
-pub record SoFar (d : Parts) (ps : List ProcessId) (old : Regions) (i : ℕ) (r : Regions) : Type 0 where
-  pub may : MayReady d (drop i ps) r
-  pub ready : all_ready d (drop i ps) r ≡ all_ready d ps old
+pub record SoFar (ms : List Member) (ps : List ProcessId) (old : Regions) (i : ℕ) (r : Regions) : Type 0 where
+  pub may : MayReady ms (drop i ps) r
+  pub ready : all_ready ms (drop i ps) r ≡ all_ready ms ps old
 
-module _ (d : Parts) (ps : List ProcessId) (old : Regions) (i : ℕ) (r : Regions) (h : SoFar d ps old i r) (p : ProcessId) (l : i < length ps) (e : get_or ps i p ≡ p) where
-  first_may : MayReady d (p ∷ drop (i + 1) ps) r
-  first_may = subst (λ qs. MayReady d qs r) (next_is ps i p l e) h.may
+module _ (ms : List Member) (ps : List ProcessId) (old : Regions) (i : ℕ) (r : Regions) (h : SoFar ms ps old i r) (p : ProcessId) (l : i < length ps) (e : get_or ps i p ≡ p) where
+  first_may : MayReady ms (p ∷ drop (i + 1) ps) r
+  first_may = subst (λ qs. MayReady ms qs r) (next_is ps i p l e) h.may
 
-  pub next_known : p.0 < length d.processes
+  pub next_known : p.0 < length ms
   next_known = first_may.known.0
 
   pub next_absent : Contains (standing r) p → ⊥
-  next_absent = may_absent d p (drop (i + 1) ps) r first_may
+  next_absent = may_absent ms p (drop (i + 1) ps) r first_may
 
-  pub next_so_far : SoFar d ps old (i + 1) (ready_in (front_of (side_at d p)) p r)
+  pub next_so_far : SoFar ms ps old (i + 1) (ready_in (front_of (side_at ms p)) p r)
   next_so_far = record {
-    may = may_more d p (drop (i + 1) ps) r first_may;
-    ready = sym (ap (λ qs. all_ready d qs r) (next_is ps i p l e)) ∙ h.ready;
+    may = may_more ms p (drop (i + 1) ps) r first_may;
+    ready = sym (ap (λ qs. all_ready ms qs r) (next_is ps i p l e)) ∙ h.ready;
   }
 
 nothing : (ps : List ProcessId) (i : ℕ) → length ps ≤ i → drop i ps ≡ []
@@ -85,5 +77,5 @@ nothing [] (suc i) l = refl
 nothing (p ∷ ps) zero l = absurd (omega (arith, l))
 nothing (p ∷ ps) (suc i) l = nothing ps i (omega (arith, l))
 
-pub all_so_far : (d : Parts) (ps : List ProcessId) (old : Regions) (i : ℕ) (r : Regions) → SoFar d ps old i r → length ps ≤ i → r ≡ all_ready d ps old
-all_so_far d ps old i r h l = sym (ap (λ qs. all_ready d qs r) (nothing ps i l)) ∙ h.ready
+pub all_so_far : (ms : List Member) (ps : List ProcessId) (old : Regions) (i : ℕ) (r : Regions) → SoFar ms ps old i r → length ps ≤ i → r ≡ all_ready ms ps old
+all_so_far ms ps old i r h l = sym (ap (λ qs. all_ready ms qs r) (nothing ps i l)) ∙ h.ready

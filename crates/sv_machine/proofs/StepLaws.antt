@@ -3,7 +3,7 @@ use Rattle.std.proofs.Common.{ℕ, ◌≡◌, ◌<◌, ◌+◌, Bool, true, fals
 use Rattle.std.proofs.lemmas.Bool.Decides.{nat_tests}
 use Rattle.std.specs.Prelude.{nat_lt, ◌^◌, slice_index_or, IsNone, IsTrue, is_some, not, ◌&&◌, ◌==◌, unwrap_or, get_or, reverse, if◌then◌else◌}
 use Rattle.std.specs.List.{AllByRecursion}
-use Rattle.std.proofs.lemmas.List.{reverse-append, length-map}
+use Rattle.std.proofs.lemmas.List.{reverse-append}
 use Rattle.sv_value.specs.declared.number.ProcessId.{ProcessId}
 use Rattle.sv_value.specs.declared.place.Place.{Place}
 use Rattle.sv_value.specs.declared.place.RunFault.{RunFault}
@@ -27,7 +27,9 @@ use Rattle.sv_sound.specs.After.{with_state, remaining, entered_by, entering}
 use Rattle.sv_sound.proofs.Weights.{there, got, map_at}
 use Rattle.sv_sound.proofs.Wakes.{slice_get-set_same, slice_set-set}
 use Rattle.sv_sound.proofs.Occurs.{next, remain_is, enter_is}
-use Rattle.sv_sound.proofs.EffectSound.{all_sound, state_sound, remain_sound, runs_calm, running_known, found}
+use Rattle.sv_sound.proofs.Changes.{plain_at}
+use Rattle.sv_sound.proofs.Running.{state_sound, remain_sound, runs_calm}
+use Rattle.sv_sound.proofs.EffectSound.{all_sound}
 use Rattle.sv_sound.proofs.MicroPlain.{micro_plain}
 use Rattle.sv_assign.specs.Seen.{view_in}
 use Rattle.sv_process.specs.declared.effect.Effect.{Effect as Own_effect}
@@ -42,9 +44,9 @@ use Rattle.sv_sense.specs.Sensed.{Covers}
 use Rattle.sv_machine.specs.declared.machine.Machine.{Machine}
 use Rattle.sv_machine.specs.declared.line.Line.{Line}
 use Rattle.sv_machine.specs.Waits.{awaited_by}
-use Rattle.sv_machine.specs.Machine.{Picture, of_machine, of_config, Tracks, StandsFor, IsAt, Does, rest_of}
+use Rattle.sv_machine.specs.Machine.{Picture, of_machine, of_config, IsAlive, Tracks, StandsFor, IsAt, Does, rest_of}
 use Rattle.sv_machine.proofs.WriteLaws.{seen_before}
-use Rattle.sv_machine.proofs.EffectLaws.{running_is, state_is, made_is, map_set, set_same, state_picture, remain_tracks}
+use Rattle.sv_machine.proofs.EffectLaws.{running_is, state_is, made_is, map_set, set_same, plain_picture, remain_tracks}
 
 -- ---- one effect after another
 
@@ -243,19 +245,20 @@ module _ (d : Parts) (b : IsBuilt d) (p : ProcessId) (m n : Machine) (r : m.runn
     runs = running_is d m c a p r
 
     rests_plain : AllByRecursion IsPlainTodo q.rest
-    rests_plain = (found d c a.sound p q is).state.rest
+    rests_plain = (plain_at d c a.sound p q is).rest
 
     here_stands : StandsFor d other here
     here_stands = record {
-      sound = state_sound d c a.sound p runs q is (cleared q) refl refl refl refl rests_plain (runs_calm d c a.sound p runs q is);
+      sound = state_sound d c a.sound p runs q is (cleared q) refl refl refl refl rests_plain (runs_calm d c a.sound p runs q is) (λ e. e);
       going = a.going;
       fault = a.fault;
       stands = record {
-        picture = a.stands.picture ∙ sym (state_picture d m c a p r q is (cleared q) refl refl ∙ (λ i. record (of_config d c) {
+        picture = a.stands.picture ∙ sym (plain_picture d m c a p r q is (cleared q) refl refl refl ∙ (λ i. record (of_config d c) {
           remaining = set_same (map rest_of c.processes) p.0 q.rest (map_at rest_of c.processes p.0 q is) i;
           waiting = set_same (map awaited_by c.processes) p.0 (awaited_by q) (map_at awaited_by c.processes p.0 q is) i;
         }));
         covers = a.stands.covers;
+        alive = a.stands.alive;
         last = a.stands.last;
       };
     }
@@ -316,6 +319,7 @@ module _ (d : Parts) (b : IsBuilt d) (p : ProcessId) (m n : Machine) (r : m.runn
           stands = record {
             picture = ap (of_machine d) h.is ∙ (λ i. record (of_machine d m) { remaining = same i }) ∙ here_stands.stands.picture;
             covers = subst (Covers d) (sym (ap (λ (y : Machine). y.sense) h.is)) a.stands.covers;
+            alive = subst (λ (y : Machine). IsAlive y.tree y.running) (sym h.is) a.stands.alive;
             last = (let k = ap (λ (y : Machine). y.wheel.last) h.is in let l = ap (λ (y : Machine). y.time) h.is in let o = a.stands.last in omega (arith, k, l, o));
           };
         }
@@ -380,16 +384,6 @@ reverse_twice (x ∷ xs) = ap (reverse {A = _}) (front x xs) ∙ reverse_last (r
   where
     front : {A : Type 0} (x : A) (xs : List A) → reverse (x ∷ xs) ≡ reverse xs ++ x ∷ []
     front x xs = reverse-append (x ∷ []) xs
-
--- the running process has its entries
-pub has_frames : (d : Parts) (m : Machine) → IsAt d m → (p : ProcessId) → m.running ≡ Some p → p.0 < length m.processes.items
-has_frames d m a p r =
-    let c = a.config in
-    let k = running_known d c a.stands.sound p (running_is d m c a.stands p r) in
-    let e = ap (λ (y : Picture). length y.remaining) a.stands.stands.picture in
-    let l = length-map m.processes.items (todos_of d) in
-    let o = length-map c.processes rest_of in
-    omega (arith, k, e, l, o)
 
 pub took_step : (d : Parts) (p : ProcessId) (m n : Machine) (x : Stepped) (new : List Frame) (out : List Own_effect) (none : List Frame) (name : Name)
     → p.0 < length m.processes.items → n ≡ record m { processes = n.processes; spare = n.spare } → n.processes.items ≡ slice_set m.processes.items p.0 new

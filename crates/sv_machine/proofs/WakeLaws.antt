@@ -13,6 +13,7 @@ use Rattle.sv_flat.specs.Eval.{value_of}
 use Rattle.sv_flat.specs.Process
 use Rattle.sv_flat.specs.Process.{Status, Ready, Running, Waiting, Moment, Turn_in_slot, Watches, Children, Queue, Start, ProcessState}
 use Rattle.sv_flat.specs.Config.{Config, unit_ticks, seen, starts}
+use Rattle.sv_flat.specs.Effects.Ends.{is_ended}
 use Rattle.sv_flat.specs.Woken.{Changed, allowed, some_fires, is_woken}
 use Rattle.sv_built.specs.declared.wait.Wait.{Wait}
 use Rattle.sv_built.specs.Built.{IsBuilt, IsBuiltWatch}
@@ -21,6 +22,7 @@ use Rattle.sv_sound.specs.Sound.{IsSound, pending_count}
 use Rattle.sv_sound.specs.After.{with_store}
 use Rattle.sv_sound.proofs.Static.{fires_outside}
 use Rattle.sv_sound.proofs.Wakes.{states_after, regions_after, woken_in}
+use Rattle.sv_fork.specs.Tree.{Member, join_of, member_of}
 use Rattle.sv_assign.specs.Seen.{view_in}
 use Rattle.sv_sense.specs.Wakes.{woken_from, waits_after}
 use Rattle.sv_sense.proofs.BuiltLaws.{wait_built}
@@ -107,35 +109,35 @@ module _ (d : Parts) (b : IsBuilt d) (c : Config) (s : Store) (old new : View) (
       by_test false e false g f z =
           ap (λ (b : Bool). awaited_at d (if b then None else w) ∷ map (awaited_at d) (waits_after t ws)) e ∙ (λ i. f i ∷ z i)
 
-  pub regions_agree : (n : ℕ) (qs : List ProcessState) (ws : List (Option Wait)) → map (awaited_at d) ws ≡ map awaited_by qs
-      → ((i : ℕ) (q : ProcessState) → slice_get qs i ≡ Some q → q.side ≡ side_at d (record { 0 = n + i })) → (r : Regions)
-      → all_ready d (woken_from t n ws) r ≡ regions_after (woken_in d c s) n qs r
-  regions_agree n [] [] e g r = refl
-  regions_agree n [] (w ∷ ws) e g r = absurd (cc)
-  regions_agree n (q ∷ qs) [] e g r = absurd (cc)
-  regions_agree n (q ∷ qs) (w ∷ ws) e g r =
+  pub regions_agree : (ms : List Member) (n : ℕ) (qs : List ProcessState) (ws : List (Option Wait)) → map (awaited_at d) ws ≡ map awaited_by qs
+      → ((i : ℕ) (q : ProcessState) → slice_get qs i ≡ Some q → q.side ≡ side_at ms (record { 0 = n + i })) → (r : Regions)
+      → all_ready ms (woken_from t n ws) r ≡ regions_after (woken_in d c s) n qs r
+  regions_agree ms n [] [] e g r = refl
+  regions_agree ms n [] (w ∷ ws) e g r = absurd (cc)
+  regions_agree ms n (q ∷ qs) [] e g r = absurd (cc)
+  regions_agree ms n (q ∷ qs) (w ∷ ws) e g r =
       let first : awaited_at d w ≡ awaited_by q = cc in
       let rest : map (awaited_at d) ws ≡ map awaited_by qs = cc in
       let same = one_agrees n q w first in
       let z : n + 0 ≡ n = omega arith in
-      let side : q.side ≡ side_at d (record { 0 = n }) = g 0 q refl ∙ ap (λ m. side_at d (record { 0 = m })) z in
-      let later : (i : ℕ) (x : ProcessState) → slice_get qs i ≡ Some x → x.side ≡ side_at d (record { 0 = n + 1 + i }) =
-      λ i x f. (let y : n + suc i ≡ n + 1 + i = omega arith in g (suc i) x f ∙ ap (λ m. side_at d (record { 0 = m })) y) in
-      by_test (t w) refl (woken_in d c s n q) same side (regions_agree (n + 1) qs ws rest later)
+      let side : q.side ≡ side_at ms (record { 0 = n }) = g 0 q refl ∙ ap (λ m. side_at ms (record { 0 = m })) z in
+      let later : (i : ℕ) (x : ProcessState) → slice_get qs i ≡ Some x → x.side ≡ side_at ms (record { 0 = n + 1 + i }) =
+      λ i x f. (let y : n + suc i ≡ n + 1 + i = omega arith in g (suc i) x f ∙ ap (λ m. side_at ms (record { 0 = m })) y) in
+      by_test (t w) refl (woken_in d c s n q) same side (regions_agree ms (n + 1) qs ws rest later)
     where
       p : ProcessId
       p = record { 0 = n }
 
-      by_test : (b : Bool) → t w ≡ b → (a : Bool) → a ≡ t w → q.side ≡ side_at d p
-          → ((r : Regions) → all_ready d (woken_from t (n + 1) ws) r ≡ regions_after (woken_in d c s) (n + 1) qs r)
-          → all_ready d (if t w then p ∷ woken_from t (n + 1) ws else woken_from t (n + 1) ws) r
+      by_test : (b : Bool) → t w ≡ b → (a : Bool) → a ≡ t w → q.side ≡ side_at ms p
+          → ((r : Regions) → all_ready ms (woken_from t (n + 1) ws) r ≡ regions_after (woken_in d c s) (n + 1) qs r)
+          → all_ready ms (if t w then p ∷ woken_from t (n + 1) ws else woken_from t (n + 1) ws) r
           ≡ regions_after (woken_in d c s) (n + 1) qs (if a then ready_in (front_of q.side) p r else r)
       by_test true e true g f z =
-          ap (λ (b : Bool). all_ready d (if b then p ∷ woken_from t (n + 1) ws else woken_from t (n + 1) ws) r) e
-          ∙ z (ready_in (front_of (side_at d p)) p r) ∙ ap (λ x. regions_after (woken_in d c s) (n + 1) qs (ready_in (front_of x) p r)) (sym f)
+          ap (λ (b : Bool). all_ready ms (if b then p ∷ woken_from t (n + 1) ws else woken_from t (n + 1) ws) r) e
+          ∙ z (ready_in (front_of (side_at ms p)) p r) ∙ ap (λ x. regions_after (woken_in d c s) (n + 1) qs (ready_in (front_of x) p r)) (sym f)
       by_test true e false g f z = absurd (cc)
       by_test false e true g f z = absurd (cc)
-      by_test false e false g f z = ap (λ (b : Bool). all_ready d (if b then p ∷ woken_from t (n + 1) ws else woken_from t (n + 1) ws) r) e ∙ z r
+      by_test false e false g f z = ap (λ (b : Bool). all_ready ms (if b then p ∷ woken_from t (n + 1) ws else woken_from t (n + 1) ws) r) e ∙ z r
 
 -- ---- what stays of the processes
 
@@ -162,6 +164,34 @@ made_stays t n (q ∷ qs) = λ i. first (t n q) i ∷ made_stays t (n + 1) qs i
     first : (b : Bool) → made_of (if b then record q { latest = Ready } else q) ≡ made_of q
     first true = refl
     first false = refl
+
+-- where those for whom the test holds wait for no children and are not over, so does the tree
+pub family_stays : (t : ℕ → ProcessState → Bool) (n : ℕ) (qs : List ProcessState)
+    → ((i : ℕ) (q : ProcessState) → slice_get qs i ≡ Some q → t (n + i) q ≡ true → (is_ended q.latest ≡ false) × (join_of q.latest ≡ None))
+    → map member_of (states_after t n qs) ≡ map member_of qs
+family_stays t n [] h = refl
+family_stays t n (q ∷ qs) h =
+    λ i. first (t n q) (λ e. (let z : n + 0 ≡ n = omega arith in h 0 q refl (ap (λ m. t m q) z ∙ e))) i
+    ∷ family_stays t (n + 1) qs (λ j r g e. (let z : n + suc j ≡ n + 1 + j = omega arith in h (suc j) r g (ap (λ m. t m r) z ∙ e))) i
+  where
+    first : (b : Bool) → (b ≡ true → (is_ended q.latest ≡ false) × (join_of q.latest ≡ None)) → member_of (if b then record q { latest = Ready } else q) ≡ member_of q
+    first true k = λ i. record { side = q.side; parent = q.parent; over = sym (k refl).0 i; join = sym (k refl).1 i }
+    first false k = refl
+
+-- whom a change wakes is not over, and waits for no children
+pub woken_waits : (d : Parts) (c : Config) (s : Store) (n : ℕ) (q : ProcessState) → woken_in d c s n q ≡ true → (is_ended q.latest ≡ false) × (join_of q.latest ≡ None)
+woken_waits d c s n q = by_status q.latest
+  where
+    by_status : (x : Status) → is_woken d Changed c (with_store s c) (record q { latest = x }) ≡ true → (is_ended x ≡ false) × (join_of x ≡ None)
+    by_status Ready h = absurd (cc)
+    by_status Running h = absurd (cc)
+    by_status Process.Ended h = absurd (cc)
+    by_status (Waiting Moment) h = absurd (cc)
+    by_status (Waiting Turn_in_slot) h = absurd (cc)
+    by_status (Waiting (Watches ws scope)) h = (refl, refl)
+    by_status (Waiting (Children all ps)) h = absurd (cc)
+    by_status (Waiting Queue) h = absurd (cc)
+    by_status (Waiting Start) h = absurd (cc)
 
 -- the count of starters follows from who was taken
 pub pending_by_taken : (fs : List Process) (qs us : List ProcessState) → map was_taken us ≡ map was_taken qs → pending_count fs us ≡ pending_count fs qs

@@ -1,5 +1,5 @@
 -- What a write makes of the machine and of the configuration for which it stands.
-use Rattle.std.proofs.Common.{ℕ, ◌≡◌, ◌≢◌, ◌+◌, ◌≤◌, Bool, true, false, List, [], ◌∷◌, Option, None, Some, refl, ap, subst, sym, ◌∙◌, arith, length, map, slice_get}
+use Rattle.std.proofs.Common.{ℕ, ◌≡◌, ◌≢◌, ◌+◌, ◌≤◌, ◌^◌, Bool, true, false, List, [], ◌∷◌, Option, None, Some, refl, ap, subst, sym, ◌∙◌, arith, length, map}
 use Rattle.std.specs.Prelude.{Ok, Result, IsNone, ◌==◌, if◌then◌else◌, sum_by}
 use Rattle.std.specs.List.{AllByRecursion}
 use Rattle.std.proofs.lemmas.List.Sums.{sum_by-cons}
@@ -25,8 +25,7 @@ use Rattle.sv_sound.specs.Sound.{IsSound, weight_of_all, is_parked, parked_weigh
 use Rattle.sv_sound.specs.After.{with_store, with_activations, changed_to, store_after}
 use Rattle.sv_flat.specs.Config.{all_made_ready}
 use Rattle.sv_sound.proofs.Wakes.{states_after, regions_after, woken_in, change_states, write_is, none_woken as none_woken_by}
-use Rattle.sv_sound.proofs.EffectSound.{await_built, change_sound}
-use Rattle.sv_sound.proofs.States.{state_found}
+use Rattle.sv_sound.proofs.Changes.{await_built, change_sound}
 use Rattle.sv_store.specs.declared.change.Overwritten.{Overwritten}
 use Rattle.sv_store.specs.Overwrites.{object_before, value_before}
 use Rattle.sv_assign.specs.Seen.{world_in, view_in, view_before}
@@ -36,9 +35,10 @@ use Rattle.sv_sense.specs.Sensed.{Sensed, Covers}
 use Rattle.sv_sense.proofs.BuiltLaws.{wait_built}
 use Rattle.sv_machine.specs.declared.machine.Machine.{Machine}
 use Rattle.sv_machine.specs.Waits.{awaited_at, awaited_by}
-use Rattle.sv_machine.specs.Machine.{Picture, of_machine, of_config, Tracks, StandsFor, IsAt, Makes, SameButValues}
-use Rattle.sv_machine.specs.Wakes.{side_at, side_in_design, all_ready, waits_weight, IsKnown, Wakes}
-use Rattle.sv_machine.proofs.WakeLaws.{Tests, quiet, seen_is, awaited_some, waits_agree, regions_agree, rest_stays, taken_stays, made_stays, pending_by_taken}
+use Rattle.sv_machine.specs.Machine.{Picture, of_machine, of_config, IsAlive, Tracks, StandsFor, IsAt, Makes, SameButValues}
+use Rattle.sv_machine.specs.Wakes.{all_ready, waits_weight, IsKnown, Wakes}
+use Rattle.sv_machine.proofs.WakeLaws.{Tests, quiet, seen_is, awaited_some, waits_agree, regions_agree, woken_waits, family_stays, rest_stays, taken_stays, made_stays, pending_by_taken}
+use Rattle.sv_machine.proofs.FamilyLaws.{family_count, family_few, family_weight, waits_count, side_from}
 
 -- ---- who is woken
 
@@ -102,7 +102,7 @@ same_but w s as' now unit scope = record { object = λ p h. other p h; variable 
 pub record Written (d : Parts) (m n : Machine) (s : Store) (t : Option Wait → Bool) : Type 0 where
   pub is : n ≡ record m { store = s; sense = n.sense; regions = n.regions }
   pub waits : n.sense.waits ≡ waits_after t m.sense.waits
-  pub regions : n.regions ≡ all_ready d (woken_from t 0 m.sense.waits) m.regions
+  pub regions : n.regions ≡ all_ready m.tree (woken_from t 0 m.sense.waits) m.regions
   pub covers : Covers d n.sense
 
 module _ (d : Parts) (b : IsBuilt d) (m : Machine) (c : Config) (h : StandsFor d m c) (s : Store) where
@@ -111,12 +111,6 @@ module _ (d : Parts) (b : IsBuilt d) (m : Machine) (c : Config) (h : StandsFor d
 
   same : of_machine d m ≡ of_config d c
   same = h.stands.picture
-
-  sides : (i : ℕ) (q : ProcessState) → slice_get c.processes i ≡ Some q → q.side ≡ side_at d (record { 0 = 0 + i })
-  sides i q e =
-      let f = state_found _ d.processes c.processes i q h.sound.states e in
-      let z : 0 + i ≡ i = omega arith in
-      f.state.side ∙ sym (ap side_in_design (ap (slice_get d.processes) z ∙ f.at))
 
   -- what is seen before and after
   pub seen_before : (scope : Option Name) → seen d c scope ≡ view_in m.store m.activations.activations m.time u scope
@@ -132,15 +126,15 @@ module _ (d : Parts) (b : IsBuilt d) (m : Machine) (c : Config) (h : StandsFor d
     waits_are : map (awaited_at d) (waits_after t m.sense.waits) ≡ map awaited_by (states_after (woken_in d c s) 0 c.processes)
     waits_are = waits_agree d b c s old new before after t tests 0 c.processes m.sense.waits (ap (λ (p : Picture). p.waiting) same)
 
-    regions_are : all_ready d (woken_from t 0 m.sense.waits) m.regions ≡ regions_after (woken_in d c s) 0 c.processes c.regions
+    regions_are : all_ready m.tree (woken_from t 0 m.sense.waits) m.regions ≡ regions_after (woken_in d c s) 0 c.processes c.regions
     regions_are =
-        regions_agree d b c s old new before after t tests 0 c.processes m.sense.waits (ap (λ (p : Picture). p.waiting) same) sides m.regions
+        regions_agree d b c s old new before after t tests m.tree 0 c.processes m.sense.waits (ap (λ (p : Picture). p.waiting) same) (side_from d m c same) m.regions
         ∙ ap (λ (p : Picture). regions_after (woken_in d c s) 0 c.processes p.regions) same
 
     abbrev shown : Config
     shown = record (with_store s c) { processes = states_after (woken_in d c s) 0 c.processes; regions = regions_after (woken_in d c s) 0 c.processes c.regions }
 
-    machine_is : of_machine d n ≡ record (of_machine d m) { store = s; waiting = map (awaited_at d) (waits_after t m.sense.waits); regions = all_ready d (woken_from t 0 m.sense.waits) m.regions }
+    machine_is : of_machine d n ≡ record (of_machine d m) { store = s; waiting = map (awaited_at d) (waits_after t m.sense.waits); regions = all_ready m.tree (woken_from t 0 m.sense.waits) m.regions }
     machine_is =
         ap (of_machine d) w.is
         ∙ (λ i. record (of_machine d m) { store = s; waiting = map (awaited_at d) (w.waits i); regions = w.regions i })
@@ -151,7 +145,8 @@ module _ (d : Parts) (b : IsBuilt d) (m : Machine) (c : Config) (h : StandsFor d
         let t = sym (taken_stays (woken_in d c s) 0 c.processes) in
         let k = sym (made_stays (woken_in d c s) 0 c.processes) in
         let e = sym (pending_by_taken d.processes c.processes (states_after (woken_in d c s) 0 c.processes) (taken_stays (woken_in d c s) 0 c.processes)) in
-        λ i. record (of_config d shown) { made = k i; remaining = a i; taken = t i; starters = e i }
+        let f = sym (family_stays (woken_in d c s) 0 c.processes (λ i q g x. woken_waits d c s (0 + i) q x)) in
+        λ i. record (of_config d shown) { family = f i; made = k i; remaining = a i; taken = t i; starters = e i }
 
     picture_is : of_machine d n ≡ of_config d shown
     picture_is =
@@ -164,6 +159,7 @@ module _ (d : Parts) (b : IsBuilt d) (m : Machine) (c : Config) (h : StandsFor d
       going = λ g. record {
         picture = picture_is;
         covers = w.covers;
+        alive = subst (λ (x : Machine). IsAlive x.tree x.running) (sym w.is) h.stands.alive;
         last = (let e = ap (λ (x : Machine). x.wheel.last) w.is in let f = ap (λ (x : Machine). x.time) w.is in let k = h.stands.last in omega (arith, e, f, k));
       };
     })
@@ -191,14 +187,21 @@ parked_weighs d w n (Some x ∷ ws) (q ∷ qs) e =
     omega (arith, k, s)
 
 -- there is room for those who are woken
-pub wake_room : (d : Parts) (m : Machine) → IsAt d m → (w : ProcessId → ℕ) → sum_by w (standing m.regions) + waits_weight w 0 m.sense.waits ≤ weight_of_all w d
+pub wake_room : (d : Parts) (m : Machine) → IsAt d m → (w : ProcessId → ℕ) → sum_by w (standing m.regions) + waits_weight w 0 m.sense.waits ≤ weight_of_all w m.tree
 wake_room d m h w =
     let c = h.config in
     let same : of_machine d m ≡ of_config d c = h.stands.stands.picture in
     let k = parked_weighs d w 0 m.sense.waits c.processes (ap (λ (p : Picture). p.waiting) same) in
     let r = ap (λ (p : Picture). sum_by w (standing p.regions)) same in
     let a = h.stands.sound.weights w in
-    omega (arith, k, r, a)
+    let f = family_weight d m c same w in
+    omega (arith, k, r, a, f)
+
+pub wake_count : (d : Parts) (m : Machine) → IsAt d m → length m.sense.waits ≡ length m.tree
+wake_count d m h = waits_count d m h.config h.stands.stands.picture ∙ sym (family_count d m h.config h.stands.stands.picture)
+
+pub wake_few : (d : Parts) (m : Machine) → IsAt d m → length m.tree ≤ 2 ^ 18
+wake_few d m h = family_few d m h.config h.stands.stands.picture h.stands.sound
 
 pub at_covers : (d : Parts) (m : Machine) → IsAt d m → Covers d m.sense
 at_covers d m h = h.stands.stands.covers
@@ -220,7 +223,7 @@ module _ (d : Parts) (b : IsBuilt d) (m n : Machine) (tg : ObjectTarget) (x : Va
   made = m.activations.activations
 
   pub wrote_some : (w : Overwritten) → ((o : ObjId) (j : ℕ) → value_at m.store o j ≡ object_before w n.store o j)
-      → Wakes d (view_before w n.store made m.time (unit_ticks d.scale) None) (view_in n.store made m.time (unit_ticks d.scale) None) m.sense m.regions n.sense n.regions → Makes d m n (written d tg x)
+      → Wakes d m.tree (view_before w n.store made m.time (unit_ticks d.scale) None) (view_in n.store made m.time (unit_ticks d.scale) None) m.sense m.regions n.sense n.regions → Makes d m n (written d tg x)
   wrote_some w told k c a =
       let u = unit_ticks d.scale in
       let old = view_before w n.store made m.time u None in
@@ -242,7 +245,7 @@ module _ (d : Parts) (b : IsBuilt d) (m n : Machine) (tg : ObjectTarget) (x : Va
       n (record {
         is = h.is;
         waits = ap (λ (s : Sensed). s.waits) s ∙ sym (none_left t none m.sense.waits);
-        regions = r ∙ ap (λ (ps : List ProcessId). all_ready d ps m.regions) (sym (none_woken t none 0 m.sense.waits));
+        regions = r ∙ ap (λ (ps : List ProcessId). all_ready m.tree ps m.regions) (sym (none_woken t none 0 m.sense.waits));
         covers = subst (Covers d) (sym s) a.stands.covers;
       }))
 
@@ -256,6 +259,7 @@ varied_makes d m f c a = record {
   going = λ g. record {
     picture = λ i. record (a.stands.picture i) { activations = f (a.stands.picture i).activations };
     covers = a.stands.covers;
+    alive = a.stands.alive;
     last = a.stands.last;
   };
 }

@@ -4,6 +4,7 @@ pub mod Waits
 pub mod Machine
 pub mod Wakes
 pub mod Steps
+pub mod Forks
 pub mod Starts
 pub mod Strobes
 pub mod Opening

@@ -1,5 +1,5 @@
 -- How a machine keeps a configuration.
-use Rattle.std.specs.Prelude.{ℕ, ◌≡◌, ◌≤◌, ◌<◌, ◌+◌, ◌^◌, ◌++◌, Bool, List, [], Option, None, Some, IsNone, map}
+use Rattle.std.specs.Prelude.{ℕ, ◌≡◌, ◌≤◌, ◌<◌, ◌+◌, ◌^◌, ◌++◌, Bool, false, List, [], Option, None, Some, IsNone, map}
 use Rattle.sv_value.specs.declared.number.ProcessId.{ProcessId}
 use Rattle.sv_value.specs.declared.schedule.Side.{Side}
 use Rattle.sv_value.specs.declared.schedule.Phase.{Phase}
@@ -16,6 +16,7 @@ use Rattle.sv_flat.specs.Process.{ProcessState, Todo}
 use Rattle.sv_flat.specs.Config.{Config, Strobe, Record}
 use Rattle.sv_built.specs.Positions.{stmt_at}
 use Rattle.sv_sound.specs.Sound.{IsSound, pending_count}
+use Rattle.sv_fork.specs.Tree.{Member, member_of, is_over_in}
 use Rattle.sv_sense.specs.Sensed.{Covers}
 use Rattle.sv_process.specs.Frames.{todos_of}
 use Rattle.sv_machine.specs.declared.machine.Machine.{Machine}
@@ -64,6 +65,7 @@ pub record Picture : Type 0 where
   pub store : Store
   pub activations : List Activation
   -- by process number
+  pub family : List Member
   pub made : List ℕ
   pub remaining : List (List Todo)
   pub waiting : List (Option (List Watch))
@@ -87,6 +89,7 @@ of_machine d m =
       running = m.running;
       store = m.store;
       activations = m.activations.activations;
+      family = m.tree;
       made = m.activations.made;
       remaining = map (todos_of d) m.processes.items;
       waiting = map (awaited_at d) m.sense.waits;
@@ -110,6 +113,7 @@ of_config d c =
       running = c.running;
       store = c.store;
       activations = c.activations;
+      family = map member_of c.processes;
       made = map made_of c.processes;
       remaining = map rest_of c.processes;
       waiting = map awaited_by c.processes;
@@ -122,11 +126,17 @@ of_config d c =
       used_reactive = c.used_reactive;
     }
 
+-- the process that runs, if there is one, is not over
+abbrev pub IsAlive : List Member → Option ProcessId → Type 0
+IsAlive ms None = Unit {0}
+IsAlive ms (Some p) = is_over_in ms p ≡ false
+
 -- The machine keeps all that it has to keep of a configuration.
 pub record Stands (d : Parts) (m : Machine) (c : Config) : Type 0 where
   pub picture : of_machine d m ≡ of_config d c
   -- who waits is found by what it waits for
   pub covers : Covers d m.sense
+  pub alive : IsAlive m.tree m.running
   pub last : m.wheel.last ≤ m.time
 
 -- After a fault only the fault and the time are kept.

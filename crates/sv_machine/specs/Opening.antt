@@ -1,5 +1,5 @@
 -- The parts of an opening (IEEE 1800-2017, 4.3, 6.8 and 9.2.2.2).
-use Rattle.std.specs.Prelude.{ℕ, ◌+◌, Bool, ◌&&◌, List, [], ◌∷◌, if◌then◌else◌}
+use Rattle.std.specs.Prelude.{ℕ, ◌+◌, Bool, false, ◌&&◌, List, [], ◌∷◌, None, if◌then◌else◌}
 use Rattle.sv_value.specs.declared.number.ObjId.{ObjId}
 use Rattle.sv_value.specs.declared.number.ProcessId.{ProcessId}
 use Rattle.sv_value.specs.declared.schedule.Side.{Side}
@@ -11,11 +11,16 @@ use Rattle.sv_flat.specs.declared.design.Parts.{Parts}
 use Rattle.sv_flat.specs.Config.{starts}
 use Rattle.sv_flat.specs.State.{Store}
 use Rattle.sv_flat.specs.Opening.{initializer_run, first_status, is_ready}
+use Rattle.sv_fork.specs.Tree.{Member}
 use Rattle.sv_assign.specs.Seen.{world_in}
 
 -- what the initializer of an object makes of a store
 abbrev pub store_initialized : Parts → ObjId → Object → Store → Store
 store_initialized d n o s = (initializer_run d n o o.initial (world_in s [])).store
+
+-- a process that the design begins with
+abbrev pub first_member : Process → Member
+first_member f = record { side = f.side; parent = None; over = false; join = None }
 
 -- how many starters there are
 abbrev pub starter_count : List Process → ℕ

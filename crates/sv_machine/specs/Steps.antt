@@ -19,6 +19,7 @@ use Rattle.sv_flat.specs.Effects.Writes.{variable_over}
 use Rattle.sv_flat.specs.Process.{Todo, Spot, Variable_of, Effect, Enter, body_in}
 use Rattle.sv_built.specs.declared.wait.Wait.{Wait}
 use Rattle.sv_built.specs.declared.wait.Wait.TheVariants as wait
+use Rattle.sv_fork.specs.Tree.{ended_in}
 use Rattle.sv_arena.specs.Made.{entered}
 use Rattle.sv_sense.specs.Sensed.{Covers}
 use Rattle.sv_sound.specs.After.{with_activations, changed_to, store_after}
@@ -76,7 +77,7 @@ pub record Remains (d : Parts) (p : ProcessId) (rest : List Todo) (m n : Machine
 
 -- a process that is over
 pub record IsOver (d : Parts) (p : ProcessId) (m n : Machine) : Type 0 where
-  pub is : n ≡ record m { running = None; processes = n.processes }
+  pub is : n ≡ record m { running = None; tree = ended_in p m.tree; processes = n.processes }
   pub left : Remains d p [] m n
 
 -- a process that begins again

@@ -1,5 +1,5 @@
 // What each effect of a step does to the machine.
-ghost use Rattle.std.specs.Prelude.{◌≡◌, ◌<◌, ◌≤◌, ◌^◌, ◌++◌, Some, None, OnOk, OnErr, length};
+ghost use Rattle.std.specs.Prelude.{◌≡◌, ◌<◌, ◌≤◌, ◌^◌, ◌++◌, Some, None, false, OnOk, OnErr, length};
 ghost use Rattle.std.specs.List.{Contains};
 ghost use Rattle.sv_value.specs.Regions.{standing};
 ghost use Rattle.sv_flat.specs.declared.process.Process.{Process};
@@ -9,10 +9,13 @@ ghost use Rattle.sv_built.specs.Built.{IsBuilt};
 ghost use Rattle.sv_sound.specs.Sound.{IsPlainEffect, IsPlainJob};
 ghost use Rattle.sv_process.specs.Effects.{effect_in};
 ghost use Rattle.sv_sense.specs.Sensed.{Covers};
-ghost use Rattle.sv_machine.specs.Machine.{IsAt, Does, SameMoment};
+ghost use Rattle.sv_fork.specs.Tree.{is_awaited};
+ghost use Rattle.sv_machine.specs.Machine.{IsAt, Makes, Does, SameMoment};
+ghost use Rattle.sv_machine.specs.Forks.{ended_forked};
 ghost use Rattle.sv_machine.specs.Steps.{turned_in, WaitsFor, resuming_at, updating_at, EndsAs};
 
 use crate::entering::enter;
+use crate::forks::{await_children, end_descendants, end_forked, fork};
 use crate::line::Line;
 use crate::machine::{Kept, Machine};
 use crate::sides::{front_region, idle_region, updates_region};
@@ -39,7 +42,7 @@ pub fn occur(
         (occurred design.now at process (effect_in design.now effect)) lines.old.items lines.new.items) }
     ensures moment { SameMoment machine.old machine.new }
 {
-    let side = design.processes()[process.0 as usize].side;
+    let side = machine.tree.side(process);
     match effect {
         Effect::Write { spot, value } => assign(machine, design, spot, value),
         Effect::Enter { entered, around } => {
@@ -49,6 +52,12 @@ pub fn occur(
         Effect::Watch { wait, .. } => watch(machine, design, process, wait),
         Effect::ResumeAt(time) => resume_at(machine, process, side, time),
         Effect::UpdateAt { time, job } => update_at(machine, side, time, job),
+        Effect::Spawn {
+            at: position,
+            scope,
+        } => fork(machine, design, process, at, position, scope),
+        Effect::AwaitChildren => await_children(machine, design, process),
+        Effect::EndDescendants => end_descendants(machine, design, process),
         Effect::Print(text) => {
             lines.push(Line { side, text })?;
             Ok(())
@@ -92,7 +101,7 @@ fn watch(
     process: ProcessId,
     wait: Wait,
 ) -> Result<(), NoMemory>
-    requires known { process.0 < length design.now.processes }
+    requires known { process.0 < length machine.old.sense.waits }
     requires covers { Covers design.now machine.old.sense }
     ensures ok { OnOk result (WaitsFor design.now process wait machine.old machine.new) }
     ensures moment { SameMoment machine.old machine.new }
@@ -143,9 +152,27 @@ fn update_at(machine: &mut Machine, side: Side, time: u64, job: Job) -> Result<(
 
 /// The process is at the end of its body: it is over, begins again, or waits for a change of what it watches.
 fn end(machine: &mut Machine, design: &Design, process: ProcessId) -> Result<(), NoMemory>
+    requires at { IsAt design.now machine.old }
+    requires running { machine.old.running ≡ Some process }
     requires built { IsBuilt design.now }
-    requires process { process.0 < length design.now.processes }
-    requires count { length machine.old.processes.items ≡ length design.now.processes }
+    ensures first { OnOk result ((f : Process) → first_process design.now process ≡ Some f
+        → EndsAs design.now f process f.kind machine.old machine.new) }
+    ensures forked { OnOk result (first_process design.now process ≡ None
+        → Makes design.now machine.old machine.new (ended_forked process)) }
+    ensures moment { SameMoment machine.old machine.new }
+{
+    if (process.0 as usize) < design.processes().len() {
+        return end_first(machine, design, process);
+    }
+    end_forked(machine, design, process)
+}
+
+/// A process that the design begins with is at the end of its body.
+fn end_first(machine: &mut Machine, design: &Design, process: ProcessId) -> Result<(), NoMemory>
+    requires first { process.0 < length design.now.processes }
+    requires known { process.0 < length machine.old.processes.items }
+    requires waits { process.0 < length machine.old.sense.waits }
+    requires alone { is_awaited machine.old.tree process ≡ false }
     requires covers { Covers design.now machine.old.sense }
     ensures ok { OnOk result ((f : Process) → first_process design.now process ≡ Some f
         → EndsAs design.now f process f.kind machine.old machine.new) }
@@ -154,6 +181,7 @@ fn end(machine: &mut Machine, design: &Design, process: ProcessId) -> Result<(),
     let own = &design.processes()[process.0 as usize];
     match own.kind {
         ProcessKind::Initial => {
+            machine.tree.end(process);
             machine.processes[process.0 as usize].clear();
             machine.running = None;
             Ok(())

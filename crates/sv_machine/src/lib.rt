@@ -4,6 +4,7 @@
 //! - `opening` opens a run.
 //! - `starts` takes a process.
 //! - `statements` makes the next step of the process that runs, effect by effect (`effects`).
+//! - `forks` has forks, `wait fork` and `disable fork`.
 //! - `writes` writes values, and lets those go on whom the change wakes (`wakes`); it does jobs.
 //! - `strobes` prints as a slot ends.
 //!
@@ -12,6 +13,7 @@
 
 mod effects;
 mod entering;
+mod forks;
 mod line;
 mod machine;
 mod opening;

@@ -2,6 +2,7 @@
 use std::alloc::Global;
 use sv_arena::Activations;
 use sv_built::Position;
+use sv_fork::Tree;
 use sv_process::{Frames, Spare};
 use sv_sched::{Regions, Wheel};
 use sv_sense::Sense;
@@ -30,6 +31,8 @@ pub struct Machine {
     pub running: Option<ProcessId>,
     pub store: Store,
     pub activations: Activations,
+    /// The processes that there are, each with its parent and with the children for which it waits.
+    pub tree: Tree,
     /// What each process has still to run, by number.
     pub processes: Vec<Frames>,
     /// For what each process waits, and whom a change wakes.

@@ -23,6 +23,7 @@ use sv_assign::{Seen, target_value};
 use sv_built::Design;
 use sv_eval::{Stopped, value};
 use sv_flat::{Base, DataType, Expr, Initial, Lvalue, Object, Process, ProcessKind};
+use sv_fork::Tree;
 use sv_process::{Frames, Spare};
 use sv_sched::{Regions, Wheel};
 use sv_sense::Sense;
@@ -44,6 +45,7 @@ pub fn opened(alloc: Global, design: &Design) -> Result<Machine, NoMemory>
         running: None,
         store: first_store(alloc, design)?,
         activations: Activations::new(alloc, processes.len())?,
+        tree: first_tree(alloc, processes)?,
         processes: at_beginnings(alloc, processes)?,
         sense: Sense::new(alloc, design)?,
         taken: never_taken(alloc, processes)?,
@@ -148,6 +150,18 @@ fn as_type(object: ObjId, ty: DataType, value: Val) -> Result<Val, NoMemory>
 }
 
 // ---- processes
+
+/// Each process on its side, which no process forked.
+fn first_tree(alloc: Global, processes: &[Process]) -> Result<Tree, NoMemory>
+    requires { length processes.now < 2 ^ 18 }
+    ensures { IfOk result (λ t. t ≡ map parts.first_member processes.now) }
+{
+    let mut tree = Tree::new(alloc);
+    for process in processes {
+        tree.add_root(process.side)?;
+    }
+    Ok(tree)
+}
 
 /// Each process at the beginning of its body.
 fn at_beginnings(alloc: Global, processes: &[Process]) -> Result<Vec<Frames>, NoMemory>

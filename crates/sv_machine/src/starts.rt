@@ -1,6 +1,6 @@
 // Processes that are taken, and the `always_comb` that start after the last starter (IEEE 1800-2017, 9.2.2.2).
 ghost use Rattle.std.specs.Prelude.{◌≡◌, ◌<◌, ◌^◌, ◌++◌, IfOk, OnOk, length, slice_get};
-ghost use Rattle.sv_flat.specs.Config.{starts, is_always_comb};
+ghost use Rattle.sv_flat.specs.Config.{starts, is_always_comb, first_test, first_process};
 ghost use Rattle.sv_built.specs.Built.{IsBuilt};
 ghost use Rattle.sv_machine.specs.Machine.{SameMoment};
 ghost use Rattle.sv_machine.specs.Starts.{held_at, held_from, is_held, IsTaking, Begins};
@@ -24,11 +24,12 @@ pub fn begin_process(
     ensures moment { SameMoment machine.old machine.new }
 {
     machine.running = Some(process);
+    machine.tree.go_on(process);
     if machine.taken[process.0 as usize] {
         return Ok(());
     }
     machine.taken[process.0 as usize] = true;
-    if !is_starter(&design.processes()[process.0 as usize]) {
+    if !starts_first(design, process) {
         return Ok(());
     }
     machine.starters -= 1;
@@ -36,7 +37,17 @@ pub fn begin_process(
         return Ok(());
     }
     let held = held_combs(machine.alloc, design.processes(), &machine.taken)?;
-    make_ready(design, &held, &mut machine.regions)
+    make_ready(&machine.tree, &held, &mut machine.regions)
+}
+
+/// Whether the process with a number is a starter: one that a fork made is none.
+fn starts_first(design: &Design, process: ProcessId) -> bool
+    ensures { result ≡ first_test starts (first_process design.now process) }
+{
+    match design.processes().get(process.0 as usize) {
+        Some(own) => is_starter(own),
+        None => false,
+    }
 }
 
 /// Whether a process is a procedure of a module other than an `always_comb`.

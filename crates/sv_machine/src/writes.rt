@@ -1,5 +1,5 @@
 // Changes of values: what is written, and whom it wakes (IEEE 1800-2017, 9.4.2 and 10.4).
-ghost use Rattle.std.specs.Prelude.{◌≡◌, ◌≤◌, ◌+◌, [], ℕ, None, OnOk, OnErr, length, reverse, sum_by};
+ghost use Rattle.std.specs.Prelude.{◌≡◌, ◌≤◌, ◌+◌, ◌^◌, [], ℕ, None, OnOk, OnErr, length, reverse, sum_by};
 ghost use Rattle.sv_value.specs.declared.number.ProcessId.{ProcessId as ProcessNumber};
 ghost use Rattle.sv_value.specs.Regions.{standing};
 ghost use Rattle.sv_flat.specs.Steps.{job_done, job_spot, updates_written};
@@ -20,6 +20,7 @@ use std::alloc::Global;
 use sv_arena::Activations;
 use sv_assign::{Before, Seen, Spot, overwrite};
 use sv_built::Design;
+use sv_fork::Tree;
 use sv_process::Spare;
 use sv_sched::Regions;
 use sv_sense::Sense;
@@ -30,6 +31,7 @@ use sv_value::{Job, NoMemory, ObjectTarget, Seq, Update, Val};
 fn wake(
     alloc: Global,
     design: &Design,
+    tree: &Tree,
     store: &Store,
     activations: &Activations,
     time: u64,
@@ -41,8 +43,10 @@ fn wake(
     requires built { IsBuilt design.now }
     requires covers { Covers design.now sense.old }
     requires weights { (w : ProcessNumber → ℕ)
-        → sum_by w (standing regions.old) + waits_weight w 0 sense.old.waits ≤ weight_of_all w design.now }
-    ensures { OnOk result (Wakes design.now
+        → sum_by w (standing regions.old) + waits_weight w 0 sense.old.waits ≤ weight_of_all w tree.now }
+    requires count { length sense.old.waits ≡ length tree.now }
+    requires few { length tree.now ≤ 2 ^ 18 }
+    ensures { OnOk result (Wakes design.now tree.now
         (view_before overwritten.now store.now activations.now.activations time (unit_ticks design.now.scale) None)
         (view_in store.now activations.now.activations time (unit_ticks design.now.scale) None) sense.old regions.old sense.new regions.new) }
 {
@@ -71,7 +75,7 @@ fn wake(
         &seen,
         &mut woken,
     )?;
-    let done = make_ready(design, &woken, regions);
+    let done = make_ready(tree, &woken, regions);
     spare.keep_woken(woken);
     done
 }
@@ -122,6 +126,7 @@ pub fn write(
             wake(
                 machine.alloc,
                 design,
+                &machine.tree,
                 &machine.store,
                 &machine.activations,
                 machine.time,

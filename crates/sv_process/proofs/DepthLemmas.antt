@@ -21,7 +21,7 @@ use Rattle.sv_built.specs.Positions.{body_of, stmt_at}
 use Rattle.sv_process.specs.declared.frames.Frame.{Frame}
 use Rattle.sv_process.specs.declared.frames.Frame.TheVariants as frame
 use Rattle.sv_process.specs.Calls.{called_at, call_in, end_at, end_of_call, end_of_form, end_of_routine}
-use Rattle.sv_process.specs.Frames.{to_do, turn_at, turns_of, turns_at, elements_at, put_of, put_at, todos_in, todos_of, is_end, is_more}
+use Rattle.sv_process.specs.Frames.{to_do, turn_at, turns_of, turns_at, elements_at, put_of, put_at, children_of, children_at, todos_in, todos_of, is_end, is_more}
 use Rattle.sv_process.proofs.FrameLemmas.{push_first}
 
 -- one where something holds
@@ -58,6 +58,14 @@ open_put (Some s) x scope ts = by_form s.at s.form
     by_form at (form.AssignAfter to e delay in_ticks) = refl
     by_form at f = refl
 
+open_children : (o : Option Stmt) (scope : Option Name) (ts : List Todo) → open_calls (children_at o scope ++ ts) ≡ open_calls ts
+open_children None scope ts = refl
+open_children (Some s) scope ts = by_form s.at s.form
+  where
+    by_form : (at : Place) (f : Form) → open_calls (children_of at f scope ++ ts) ≡ open_calls ts
+    by_form at (form.Fork vs initializers children join) = refl
+    by_form at f = refl
+
 open_called : (o : Option Stmt) (n : ℕ) (outer hidden : Option Name) (ts : List Todo) → open_calls (called_at o n outer hidden ++ ts) ≡ open_calls ts
 open_called None n outer hidden ts = refl
 open_called (Some s) n outer hidden ts = refl
@@ -92,6 +100,7 @@ open_in d (frame.Loop p scope) ts = open_turn (stmt_at d p) scope ts ∙ none_mo
 open_in d (frame.Turns p n scope) ts = open_turns (stmt_at d p) n scope ts ∙ none_more (open_calls ts)
 open_in d (frame.Elements p n scope) ts = open_elements (stmt_at d p) n scope ts ∙ none_more (open_calls ts)
 open_in d (frame.Put p x scope) ts = open_put (stmt_at d p) x scope ts ∙ none_more (open_calls ts)
+open_in d (frame.Children p scope) ts = open_children (stmt_at d p) scope ts ∙ none_more (open_calls ts)
 open_in d (frame.Called p n outer hidden) ts = open_called (stmt_at d p) n outer hidden ts ∙ none_more (open_calls ts)
 open_in d (frame.Leave p n callee caller) ts = open_end d (stmt_at d p) n callee caller ts
 

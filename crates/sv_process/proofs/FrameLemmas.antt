@@ -18,13 +18,13 @@ use Rattle.sv_flat.specs.declared.stmt.Stmt.{Stmt}
 use Rattle.sv_flat.specs.declared.stmt.Form.{Form}
 use Rattle.sv_flat.specs.declared.stmt.Form.TheVariants as form
 use Rattle.sv_flat.specs.State.{Name}
-use Rattle.sv_flat.specs.Process.{Todo, Turn, Turns, Walk_elements, Put, body_in, Do, Leave, routine_of}
+use Rattle.sv_flat.specs.Process.{Todo, Turn, Turns, Walk_elements, Put, Start_children, body_in, Do, Leave, routine_of}
 use Rattle.sv_built.specs.declared.position.Position.{Position}
 use Rattle.sv_built.specs.Positions.{body_of, stmt_at}
 use Rattle.sv_process.specs.declared.frames.Frame.{Frame}
 use Rattle.sv_process.specs.declared.frames.Frame.TheVariants as frame
 use Rattle.sv_process.specs.Calls.{call_in, called_at, end_at, end_of_call, end_of_form, end_of_routine, return_of}
-use Rattle.sv_process.specs.Frames.{to_do, rest_at, turn_at, turns_of, turns_at, elements_at, put_of, put_at, todos_in, todos_of, is_more, IsSettled, IsFirst}
+use Rattle.sv_process.specs.Frames.{to_do, rest_at, turn_at, turns_of, turns_at, elements_at, put_of, put_at, children_of, children_at, todos_in, todos_of, is_more, IsSettled, IsFirst}
 
 some_same : {a b : Frame} → Some a ≡ Some b → a ≡ b
 some_same h = cc
@@ -131,6 +131,8 @@ first_entry d xs (frame.Turns p n scope) g = λ s e body at is.
 first_entry d xs (frame.Elements p n scope) g = λ s at. by_entry d xs (frame.Elements p n scope) (Walk_elements s n scope) [] g (ap (λ o. elements_at o n scope) at)
 first_entry d xs (frame.Put p x scope) g = λ s to e delay t at is.
     by_entry d xs (frame.Put p x scope) (Put s.at to x scope) [] g (ap (λ o. put_at o x scope) at ∙ ap (λ f. put_of s.at f x scope) is)
+first_entry d xs (frame.Children p scope) g = λ s vs initializers children join at is.
+    by_entry d xs (frame.Children p scope) (Start_children s.at children join scope) [] g (ap (λ o. children_at o scope) at ∙ ap (λ f. children_of s.at f scope) is)
 first_entry d xs (frame.Called p n outer hidden) g = λ s at.
     by_entry d xs (frame.Called p n outer hidden) (Do s (drop n s.calls) outer hidden) [] g (ap (λ o. called_at o n outer hidden) at)
 first_entry d xs (frame.Leave p n callee caller) g = λ s c r as' u at number is found.
@@ -240,6 +242,18 @@ left_put d xs ys p x scope e h = left_one d xs ys (frame.Put p x scope) e (by_st
     by_form at f h ts = cc
 
     by_stmt : (o : Option Stmt) → is_more (put_at o x scope) ≡ true → (ts : List Todo) → ts ≡ drop 1 (put_at o x scope ++ ts)
+    by_stmt None h ts = cc
+    by_stmt (Some s) h ts = by_form s.at s.form h ts
+
+pub left_children : (d : Parts) (xs ys : List Frame) (p : Position) (scope : Option Name) → xs ≡ ys ++ frame.Children p scope ∷ []
+    → IsSettled d (reverse xs) → todos_of d (reverse ys) ≡ drop 1 (todos_of d (reverse xs))
+left_children d xs ys p scope e h = left_one d xs ys (frame.Children p scope) e (by_stmt (stmt_at d p) (settled_top d xs ys (frame.Children p scope) e h))
+  where
+    by_form : (at : Place) (f : Form) → is_more (children_of at f scope) ≡ true → (ts : List Todo) → ts ≡ drop 1 (children_of at f scope ++ ts)
+    by_form at (form.Fork vs initializers children join) h ts = refl
+    by_form at f h ts = cc
+
+    by_stmt : (o : Option Stmt) → is_more (children_at o scope) ≡ true → (ts : List Todo) → ts ≡ drop 1 (children_at o scope ++ ts)
     by_stmt None h ts = cc
     by_stmt (Some s) h ts = by_form s.at s.form h ts
 

@@ -18,7 +18,7 @@ use Rattle.sv_built.specs.Positions.{body_of, stmt_at}
 use Rattle.sv_process.specs.declared.frames.Frame.{Frame}
 use Rattle.sv_process.specs.declared.frames.Frame.TheVariants as frame
 use Rattle.sv_process.specs.Calls.{call_in, called_at, end_at, end_of_call, end_of_form, end_of_routine}
-use Rattle.sv_process.specs.Frames.{to_do, turn_at, turns_of, turns_at, elements_at, put_of, put_at, todos_in, todos_of, scope_in, is_more, is_turn, step_at, step_in}
+use Rattle.sv_process.specs.Frames.{to_do, turn_at, turns_of, turns_at, elements_at, put_of, put_at, children_of, children_at, todos_in, todos_of, scope_in, is_more, is_turn, step_at, step_in}
 
 -- ---- the entry of a loop
 
@@ -105,6 +105,14 @@ broken_put (Some s) x scope ts = by_form s.at s.form
     by_form at (form.AssignAfter to e delay in_ticks) = refl
     by_form at f = refl
 
+broken_children : (o : Option Stmt) (scope : Option Name) (ts : List Todo) → after_break (children_at o scope ++ ts) ≡ after_break ts
+broken_children None scope ts = refl
+broken_children (Some s) scope ts = by_form s.at s.form
+  where
+    by_form : (at : Place) (f : Form) → after_break (children_of at f scope ++ ts) ≡ after_break ts
+    by_form at (form.Fork vs initializers children join) = refl
+    by_form at f = refl
+
 broken_called : (o : Option Stmt) (n : ℕ) (outer hidden : Option Name) (ts : List Todo) → after_break (called_at o n outer hidden ++ ts) ≡ after_break ts
 broken_called None n outer hidden ts = refl
 broken_called (Some s) n outer hidden ts = refl
@@ -132,6 +140,7 @@ broken_over d (frame.Loop p scope) ts h = broken_no_turn (stmt_at d p) scope h t
 broken_over d (frame.Turns p n scope) ts h = ap (λ u. after_break (u ++ ts)) (nothing_left (turns_at (stmt_at d p) n scope) h)
 broken_over d (frame.Elements p n scope) ts h = ap (λ u. after_break (u ++ ts)) (nothing_left (elements_at (stmt_at d p) n scope) h)
 broken_over d (frame.Put p x scope) ts h = broken_put (stmt_at d p) x scope ts
+broken_over d (frame.Children p scope) ts h = broken_children (stmt_at d p) scope ts
 broken_over d (frame.Called p n outer hidden) ts h = broken_called (stmt_at d p) n outer hidden ts
 broken_over d (frame.Leave p n callee caller) ts h = broken_end d (stmt_at d p) n callee caller ts
 
@@ -148,6 +157,14 @@ continued_put d (Some s) x scope ts = by_form s.at s.form
   where
     by_form : (at : Place) (f : Form) → after_continue d (put_of at f x scope ++ ts) ≡ after_continue d ts
     by_form at (form.AssignAfter to e delay in_ticks) = refl
+    by_form at f = refl
+
+continued_children : (d : Parts) (o : Option Stmt) (scope : Option Name) (ts : List Todo) → after_continue d (children_at o scope ++ ts) ≡ after_continue d ts
+continued_children d None scope ts = refl
+continued_children d (Some s) scope ts = by_form s.at s.form
+  where
+    by_form : (at : Place) (f : Form) → after_continue d (children_of at f scope ++ ts) ≡ after_continue d ts
+    by_form at (form.Fork vs initializers children join) = refl
     by_form at f = refl
 
 continued_called : (d : Parts) (o : Option Stmt) (n : ℕ) (outer hidden : Option Name) (ts : List Todo) → after_continue d (called_at o n outer hidden ++ ts) ≡ after_continue d ts
@@ -177,6 +194,7 @@ continued_over d (frame.Loop p scope) ts h = ap (λ u. after_continue d (u ++ ts
 continued_over d (frame.Turns p n scope) ts h = ap (λ u. after_continue d (u ++ ts)) (nothing_left (turns_at (stmt_at d p) n scope) h)
 continued_over d (frame.Elements p n scope) ts h = ap (λ u. after_continue d (u ++ ts)) (nothing_left (elements_at (stmt_at d p) n scope) h)
 continued_over d (frame.Put p x scope) ts h = continued_put d (stmt_at d p) x scope ts
+continued_over d (frame.Children p scope) ts h = continued_children d (stmt_at d p) scope ts
 continued_over d (frame.Called p n outer hidden) ts h = continued_called d (stmt_at d p) n outer hidden ts
 continued_over d (frame.Leave p n callee caller) ts h = continued_end d (stmt_at d p) n callee caller ts
 

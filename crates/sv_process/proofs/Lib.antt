@@ -14,4 +14,5 @@ pub mod DepthLemmas
 pub mod ReturnLemmas
 pub mod BlockLemmas
 pub mod ElementLemmas
+pub mod ForkLemmas
 pub mod FormLemmas

@@ -18,7 +18,7 @@ use Rattle.sv_built.specs.Positions.{body_of, stmt_at}
 use Rattle.sv_process.specs.declared.frames.Frame.{Frame}
 use Rattle.sv_process.specs.declared.frames.Frame.TheVariants as frame
 use Rattle.sv_process.specs.Calls.{called_at, call_in, end_at, end_of_call, end_of_form, end_of_routine}
-use Rattle.sv_process.specs.Frames.{to_do, turn_at, turns_of, turns_at, elements_at, put_of, put_at, todos_in, todos_of, is_end, is_more}
+use Rattle.sv_process.specs.Frames.{to_do, turn_at, turns_of, turns_at, elements_at, put_of, put_at, children_of, children_at, todos_in, todos_of, is_end, is_more}
 
 -- ---- the end of a call
 
@@ -81,6 +81,14 @@ past_put (Some s) x scope ts = by_form s.at s.form
     by_form at (form.AssignAfter to e delay in_ticks) = refl
     by_form at f = refl
 
+past_children : (o : Option Stmt) (scope : Option Name) (ts : List Todo) → after_return (children_at o scope ++ ts) ≡ after_return ts
+past_children None scope ts = refl
+past_children (Some s) scope ts = by_form s.at s.form
+  where
+    by_form : (at : Place) (f : Form) → after_return (children_of at f scope ++ ts) ≡ after_return ts
+    by_form at (form.Fork vs initializers children join) = refl
+    by_form at f = refl
+
 past_called : (o : Option Stmt) (n : ℕ) (outer hidden : Option Name) (ts : List Todo) → after_return (called_at o n outer hidden ++ ts) ≡ after_return ts
 past_called None n outer hidden ts = refl
 past_called (Some s) n outer hidden ts = refl
@@ -95,6 +103,7 @@ returned_over d (frame.Loop p scope) ts h = past_turn (stmt_at d p) scope ts
 returned_over d (frame.Turns p n scope) ts h = past_turns (stmt_at d p) n scope ts
 returned_over d (frame.Elements p n scope) ts h = past_elements (stmt_at d p) n scope ts
 returned_over d (frame.Put p x scope) ts h = past_put (stmt_at d p) x scope ts
+returned_over d (frame.Children p scope) ts h = past_children (stmt_at d p) scope ts
 returned_over d (frame.Called p n outer hidden) ts h = past_called (stmt_at d p) n outer hidden ts
 returned_over d (frame.Leave p n callee caller) ts h = ap (λ u. after_return (u ++ ts)) (nothing_left (end_at d (stmt_at d p) n callee caller) h)
 

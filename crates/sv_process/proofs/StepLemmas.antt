@@ -12,10 +12,13 @@ use Rattle.sv_flat.specs.declared.call.CallForm.TheVariants as call
 use Rattle.sv_flat.specs.declared.class.Routine.{Routine}
 use Rattle.sv_flat.specs.declared.class.Subroutine.{Subroutine}
 use Rattle.sv_flat.specs.declared.object.Bounds.{Bounds}
+use Rattle.sv_flat.specs.declared.object.Declared.{Declared}
+use Rattle.sv_flat.specs.declared.stmt.JoinKind.{JoinKind}
 use Rattle.sv_flat.specs.declared.stmt.Form.TheVariants as form
 use Rattle.sv_flat.specs.declared.target.Lvalue.{Lvalue}
 use Rattle.sv_flat.specs.Expr.{Expr}
 use Rattle.sv_flat.specs.Micro.{Looks, element_on, just_inside, run_first, statement_run, place_of_step}
+use Rattle.sv_flat.specs.Statements.{spawn}
 use Rattle.sv_flat.specs.Statements.Calls.{called}
 use Rattle.sv_flat.specs.Statements.Jumps.{open_calls}
 use Rattle.sv_flat.specs.Statements.Routines.{left}
@@ -195,6 +198,14 @@ put_first d l p next handed scope v at x s to e delay in_ticks ts r fs es here i
     subst (λ us. Does d r fs es (run_first d l p next handed us)) (sym (comes s to e delay in_ticks here is))
     (subst (λ w. Does d r fs es (from_result (spots_of to w) (λ ss. writes (drop 1 ts) to ss x))) (sym see) h)
 
+-- the children of a fork
+pub children_first : (d : Parts) (l : Looks) (p : ProcessId) (next : Name) (handed : Option Message) (at : Position) (scope : Option Name) (s : Stmt) (vs : List Declared)
+    (initializers : Option RoutineId) (children : List RoutineId) (join : JoinKind) (ts : List Todo) (fs : List Frame) (es : List Own_effect)
+    → stmt_at d at ≡ Some s → s.form ≡ form.Fork vs initializers children join → IsFirst d (frame.Children at scope) ts
+    → Leaves d fs es (spawn children join scope (drop 1 ts) []) → Leaves d fs es (run_first d l p next handed ts)
+children_first d l p next handed at scope s vs initializers children join ts fs es here is comes h =
+    subst (λ us. Leaves d fs es (run_first d l p next handed us)) (sym (comes s vs initializers children join here is)) h
+
 -- ---- the place of what comes first
 
 -- the place of the first
@@ -218,6 +229,11 @@ place_of_elements d at n scope s ts here comes = sym (ap place_first (comes s he
 pub place_of_put : (d : Parts) (at : Position) (x : Val) (scope : Option Name) (s : Stmt) (to : List Lvalue) (e delay : Expr) (in_ticks : Bool) (ts : List Todo)
     → stmt_at d at ≡ Some s → s.form ≡ form.AssignAfter to e delay in_ticks → IsFirst d (frame.Put at x scope) ts → s.at ≡ place_first ts
 place_of_put d at x scope s to e delay in_ticks ts here is comes = sym (ap place_first (comes s to e delay in_ticks here is))
+
+pub place_of_children : (d : Parts) (at : Position) (scope : Option Name) (s : Stmt) (vs : List Declared) (initializers : Option RoutineId) (children : List RoutineId)
+    (join : JoinKind) (ts : List Todo)
+    → stmt_at d at ≡ Some s → s.form ≡ form.Fork vs initializers children join → IsFirst d (frame.Children at scope) ts → s.at ≡ place_first ts
+place_of_children d at scope s vs initializers children join ts here is comes = sym (ap place_first (comes s vs initializers children join here is))
 
 pub place_of_called : (d : Parts) (at : Position) (n : ℕ) (outer hidden : Option Name) (s : Stmt) (ts : List Todo) → stmt_at d at ≡ Some s
     → IsFirst d (frame.Called at n outer hidden) ts → s.at ≡ place_first ts

@@ -5,9 +5,11 @@ use Rattle.sv_flat.specs.declared.stmt.Stmt.{Stmt}
 use Rattle.sv_flat.specs.declared.stmt.Form.{Form}
 use Rattle.sv_flat.specs.declared.stmt.Form.TheVariants as form
 use Rattle.sv_flat.specs.declared.stmt.PrintKind.TheVariants as print
+use Rattle.sv_flat.specs.declared.stmt.JoinKind.TheVariants as join
 use Rattle.sv_flat.specs.declared.design.Parts.{Parts}
+use Rattle.sv_flat.specs.State.{Name}
 use Rattle.sv_flat.specs.Eval.{with_result}
-use Rattle.sv_flat.specs.Process.{Remain, Enter, Write, Suspend, Resume_at, Update_at, Print_text, Keep_print, Finish_run, End, Fail}
+use Rattle.sv_flat.specs.Process.{Remain, Enter, Write, Suspend, Resume_at, Update_at, Spawn, Await_children, End_descendants, Print_text, Keep_print, Finish_run, End, Fail}
 use Rattle.sv_flat.specs.Process.{Effect, Turn_in_slot, Watches}
 use Rattle.sv_flat.specs.Statements.Shared.{Effects, fails}
 use Rattle.sv_built.specs.Entered.{types_at}
@@ -33,6 +35,16 @@ abbrev pub strobe_at : Option Stmt → Effect
 strobe_at None = Keep_print print.Strobe [] []
 strobe_at (Some s) = strobe_of s.form
 
+-- the children of a fork
+abbrev pub spawn_of : Form → (scope : Option Name) → Effect
+spawn_of (form.Fork ts initializers children join) scope = Spawn children scope join
+spawn_of f scope = Spawn [] scope join.None
+
+-- those of the fork that stands somewhere
+abbrev pub spawn_at : Option Stmt → (scope : Option Name) → Effect
+spawn_at None scope = Spawn [] scope join.None
+spawn_at (Some s) scope = spawn_of s.form scope
+
 -- an effect
 abbrev pub effect_in : Parts → Own_effect → Effect
 effect_in d (effect.Write s x) = Write (spot_in s) x
@@ -41,6 +53,9 @@ effect_in d effect.Turn = Suspend Turn_in_slot
 effect_in d (effect.Watch w scope) = Suspend (Watches (watches_at d w) scope)
 effect_in d (effect.ResumeAt t) = Resume_at t
 effect_in d (effect.UpdateAt t j) = Update_at t j
+effect_in d (effect.Spawn p scope) = spawn_at (stmt_at d p) scope
+effect_in d effect.AwaitChildren = Await_children
+effect_in d effect.EndDescendants = End_descendants
 effect_in d (effect.Print t) = Print_text t
 effect_in d (effect.Strobe p) = strobe_at (stmt_at d p)
 effect_in d effect.Finish = Finish_run

@@ -11,11 +11,13 @@ use Rattle.sv_flat.specs.declared.call.Argument.{Argument}
 use Rattle.sv_flat.specs.declared.call.Call.{Call}
 use Rattle.sv_flat.specs.declared.call.CallForm.TheVariants as call
 use Rattle.sv_flat.specs.declared.class.Subroutine.{Subroutine}
+use Rattle.sv_flat.specs.declared.object.Declared.{Declared}
+use Rattle.sv_flat.specs.declared.stmt.JoinKind.{JoinKind}
 use Rattle.sv_flat.specs.declared.design.Parts.{Parts}
 use Rattle.sv_flat.specs.Expr.{Expr}
 use Rattle.sv_flat.specs.State.{View, Name}
 use Rattle.sv_flat.specs.Micro.{Looks}
-use Rattle.sv_flat.specs.Process.{Todo, Do, Turn, Turns, Walk_elements, Leave, Put, routine_of}
+use Rattle.sv_flat.specs.Process.{Todo, Do, Turn, Turns, Walk_elements, Start_children, Leave, Put, routine_of}
 use Rattle.sv_flat.specs.Statements.Jumps.{step_of}
 use Rattle.sv_built.specs.declared.position.Position.{Position}
 use Rattle.sv_built.specs.Positions.{body_of, stmt_at}
@@ -61,6 +63,16 @@ abbrev pub put_at : Option Stmt → Val → (scope : Option Name) → List Todo
 put_at None x scope = []
 put_at (Some s) x scope = put_of s.at s.form x scope
 
+-- the children of a fork whose initializers have run
+abbrev pub children_of : Place → Form → (scope : Option Name) → List Todo
+children_of at (form.Fork ts initializers children join) scope = Start_children at children join scope ∷ []
+children_of at f scope = []
+
+-- those of the fork that stands somewhere
+abbrev pub children_at : Option Stmt → (scope : Option Name) → List Todo
+children_at None scope = []
+children_at (Some s) scope = children_of s.at s.form scope
+
 -- what an entry stands for
 abbrev pub todos_in : Parts → Frame → List Todo
 todos_in d (frame.Rest p scope) = rest_at d p scope
@@ -68,6 +80,7 @@ todos_in d (frame.Loop p scope) = turn_at (stmt_at d p) scope
 todos_in d (frame.Turns p n scope) = turns_at (stmt_at d p) n scope
 todos_in d (frame.Elements p n scope) = elements_at (stmt_at d p) n scope
 todos_in d (frame.Put p x scope) = put_at (stmt_at d p) x scope
+todos_in d (frame.Children p scope) = children_at (stmt_at d p) scope
 todos_in d (frame.Called p n outer hidden) = called_at (stmt_at d p) n outer hidden
 todos_in d (frame.Leave p n callee caller) = end_at d (stmt_at d p) n callee caller
 
@@ -78,6 +91,7 @@ scope_in (frame.Loop p scope) = scope
 scope_in (frame.Turns p n scope) = scope
 scope_in (frame.Elements p n scope) = scope
 scope_in (frame.Put p x scope) = scope
+scope_in (frame.Children p scope) = scope
 scope_in (frame.Called p n outer hidden) = seen_from outer hidden
 scope_in (frame.Leave p n callee caller) = callee
 
@@ -106,6 +120,9 @@ IsFirst d (frame.Elements p n scope) ts = (s : Stmt) → stmt_at d p ≡ Some s 
 IsFirst d (frame.Put p x scope) ts =
     (s : Stmt) (to : List Lvalue) (e delay : Expr) (in_ticks : Bool) → stmt_at d p ≡ Some s → s.form ≡ form.AssignAfter to e delay in_ticks
     → ts ≡ Put s.at to x scope ∷ drop 1 ts
+IsFirst d (frame.Children p scope) ts =
+    (s : Stmt) (vs : List Declared) (initializers : Option RoutineId) (children : List RoutineId) (join : JoinKind) → stmt_at d p ≡ Some s
+    → s.form ≡ form.Fork vs initializers children join → ts ≡ Start_children s.at children join scope ∷ drop 1 ts
 IsFirst d (frame.Called p n outer hidden) ts = (s : Stmt) → stmt_at d p ≡ Some s → ts ≡ Do s (drop n s.calls) outer hidden ∷ drop 1 ts
 IsFirst d (frame.Leave p n callee caller) ts =
     (s : Stmt) (c : Call) (r : RoutineId) (as' : List Argument) (u : Subroutine) → stmt_at d p ≡ Some s → call_in s n ≡ Some c
@@ -126,6 +143,7 @@ is_turn d (frame.Loop p scope) = is_more (turn_at (stmt_at d p) scope)
 is_turn d (frame.Turns p n scope) = is_more (turns_at (stmt_at d p) n scope)
 is_turn d (frame.Elements p n scope) = is_more (elements_at (stmt_at d p) n scope)
 is_turn d (frame.Put p x scope) = false
+is_turn d (frame.Children p scope) = false
 is_turn d (frame.Called p n outer hidden) = false
 is_turn d (frame.Leave p n callee caller) = false
 

@@ -31,6 +31,15 @@ pub enum Effect {
         time: u64,
         job: Job,
     },
+    /// The children of the fork at a position start in a scope, and the process waits as the fork says.
+    Spawn {
+        at: Position,
+        scope: Option<Name>,
+    },
+    /// The process waits for its living children.
+    AwaitChildren,
+    /// The descendants of the process end.
+    EndDescendants,
     /// A record.
     Print(Text),
     /// What the statement at a position prints as the slot ends.

@@ -14,6 +14,7 @@ use crate::branches::{run_if, run_null};
 use crate::calls::{Site, run_call};
 use crate::cases::run_case;
 use crate::elements::run_foreach;
+use crate::forks::{run_disable_fork, run_fork, run_wait_fork};
 use crate::jumps::{run_break, run_continue};
 use crate::later::{run_nonblocking, run_nonblocking_after};
 use crate::loops::{run_do, run_forever, run_repeat, run_while};
@@ -226,6 +227,37 @@ pub fn run_form<V: Scoped>(
             run_wait(
                 frames, alloc, design, values, out, at, stmt, condition, outer, scope,
             )
+        }
+        Form::Fork {
+            locals,
+            initializers,
+            children,
+            join,
+        } => {
+            run_fork(
+                frames,
+                design,
+                values,
+                out,
+                at,
+                stmt,
+                locals.as_slice(),
+                *initializers,
+                children.as_slice(),
+                *join,
+                outer,
+                scope,
+                next,
+            )?;
+            Ok(())
+        }
+        Form::WaitFork => {
+            run_wait_fork(frames, design, out)?;
+            Ok(())
+        }
+        Form::DisableFork => {
+            run_disable_fork(frames, design, out)?;
+            Ok(())
         }
         Form::Print {
             kind,

@@ -9,7 +9,7 @@ ghost use Rattle.sv_built.specs.Positions.{stmt_at};
 ghost use Rattle.sv_flat.specs.Statements.Jumps.{open_calls};
 ghost use Rattle.sv_process.specs.declared.frames.Frame.TheVariants.{Rest};
 ghost use Rattle.sv_process.specs.Calls.{called_at, end_at, end_of_call};
-ghost use Rattle.sv_process.specs.Frames.{todos_in, todos_of, turn_at, turns_at, elements_at, put_at, scope_in, is_end, is_more, IsFirst, IsSettled};
+ghost use Rattle.sv_process.specs.Frames.{todos_in, todos_of, turn_at, turns_at, elements_at, put_at, children_at, scope_in, is_end, is_more, IsFirst, IsSettled};
 
 use crate::routines::{call_of, subroutine_of};
 use std::alloc::Global;
@@ -47,6 +47,11 @@ pub enum Frame {
     Put {
         at: Position,
         value: Val,
+        scope: Option<Name>,
+    },
+    /// The children of the fork at a position, whose initializers have run.
+    Children {
+        at: Position,
         scope: Option<Name>,
     },
     /// The statement at a position, of whose calls so many were made.
@@ -89,6 +94,7 @@ impl Drop for Frame {
                 value: _,
                 scope: _,
             } => {}
+            Frame::Children { at: _, scope: _ } => {}
             Frame::Called {
                 at: _,
                 made: _,
@@ -235,6 +241,7 @@ fn is_live(frame: &Frame, design: &Design) -> bool
         Frame::Turns { at, .. } => is_repeat(design, *at),
         Frame::Elements { at, .. } => is_stmt(design, *at),
         Frame::Put { at, .. } => is_put(design, *at),
+        Frame::Children { at, .. } => is_fork(design, *at),
         Frame::Called { at, .. } => is_stmt(design, *at),
         Frame::Leave { at, number, .. } => is_call(design, *at, *number),
     }
@@ -272,6 +279,19 @@ fn is_put(design: &Design, at: Position) -> bool
     match design.body(at.routine).get(at.place) {
         Some(stmt) => match &stmt.form {
             Form::AssignAfter { .. } => true,
+            _ => false,
+        },
+        None => false,
+    }
+}
+
+/// Whether a fork stands there.
+fn is_fork(design: &Design, at: Position) -> bool
+    ensures { (scope : Option Name) → result ≡ is_more (children_at (stmt_at design.now at) scope) }
+{
+    match design.body(at.routine).get(at.place) {
+        Some(stmt) => match &stmt.form {
+            Form::Fork { .. } => true,
             _ => false,
         },
         None => false,
@@ -366,6 +386,7 @@ pub fn scope_in(frame: &Frame) -> Option<Name>
         Frame::Turns { scope, .. } => *scope,
         Frame::Elements { scope, .. } => *scope,
         Frame::Put { scope, .. } => *scope,
+        Frame::Children { scope, .. } => *scope,
         Frame::Called { outer, hidden, .. } => match hidden {
             Some(name) => Some(*name),
             None => *outer,
@@ -375,7 +396,7 @@ pub fn scope_in(frame: &Frame) -> Option<Name>
 }
 
 /// Leaves what comes first. Memory is wanting where no number is left for the next place.
-#[tactic(auto, using(crate::proofs::FrameLemmas::left_rest_set, crate::proofs::FrameLemmas::left_loop, crate::proofs::FrameLemmas::left_turns, crate::proofs::FrameLemmas::left_elements, crate::proofs::FrameLemmas::left_put, crate::proofs::FrameLemmas::left_called, crate::proofs::FrameLemmas::left_end))]
+#[tactic(auto, using(crate::proofs::FrameLemmas::left_rest_set, crate::proofs::FrameLemmas::left_loop, crate::proofs::FrameLemmas::left_turns, crate::proofs::FrameLemmas::left_elements, crate::proofs::FrameLemmas::left_put, crate::proofs::FrameLemmas::left_children, crate::proofs::FrameLemmas::left_called, crate::proofs::FrameLemmas::left_end))]
 fn leave_top(stack: &mut Vec<Frame>, design: &Design) -> Result<(), NoMemory>
     requires { IsSettled design.now (reverse stack.old.items) }
     ensures { OnOk result (todos_of design.now (reverse stack.new.items) ≡ drop 1 (todos_of design.now (reverse stack.old.items))) }

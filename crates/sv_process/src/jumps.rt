@@ -25,6 +25,7 @@ fn is_turn(frame: &Frame, design: &Design) -> bool
         Frame::Turns { at, .. } => is_repeat(design, *at),
         Frame::Elements { at, .. } => is_stmt(design, *at),
         Frame::Put { .. } => false,
+        Frame::Children { .. } => false,
         Frame::Called { .. } => false,
         Frame::Leave { .. } => false,
     }
@@ -40,6 +41,7 @@ fn step_of(frame: &Frame, design: &Design) -> Option<RoutineId>
         Frame::Turns { .. } => None,
         Frame::Elements { .. } => None,
         Frame::Put { .. } => None,
+        Frame::Children { .. } => None,
         Frame::Called { .. } => None,
         Frame::Leave { .. } => None,
     }

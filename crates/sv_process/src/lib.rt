@@ -4,7 +4,7 @@
 //! - `steps` runs what comes first of that, `statement` a statement with the calls before it, and `forms` what it does by its form. `went` tells how far a
 //!   step came.
 //! - `blocks`, `branches`, `cases`, `loops`, `elements` and `jumps` have the statements that choose what comes next; `assigns` and `later`
-//!   assignments, `waits` delays, event controls and `wait`, `prints` prints, `others` the rest. `ends` has how each statement ends.
+//!   assignments, `waits` delays, event controls and `wait`, `forks` forks, `prints` prints, `others` the rest. `ends` has how each statement ends.
 //! - `calls` begins a call of a task or a function, `routines` tells which one, `inside` what its arguments see, `returns` has `return`, and
 //!   `leaves` the end of a call.
 //! - `spare` keeps the memory of updates and effects that were done.
@@ -22,6 +22,7 @@ mod cases;
 mod effect;
 mod elements;
 mod ends;
+mod forks;
 mod forms;
 mod frames;
 mod inside;

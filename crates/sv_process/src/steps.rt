@@ -18,6 +18,7 @@ ghost use Rattle.sv_process.specs.Effects.{effects_of, is_held};
 use crate::assigns::run_put;
 use crate::elements::run_elements;
 use crate::ends::put;
+use crate::forks::step_children;
 use crate::leaves::run_leave;
 use crate::loops::run_turns;
 use crate::routines::{call_of, subroutine_of};
@@ -48,7 +49,7 @@ pub struct Stepped {
 }
 
 /// The statement at a position, if there is one.
-fn stmt_of<'a>(design: &'a Design, at: Position) -> Option<&'a Stmt>
+pub fn stmt_of<'a>(design: &'a Design, at: Position) -> Option<&'a Stmt>
     ensures { IfSome result (λ s. stmt_at design.now at ≡ Some s.now) }
 {
     design.body(at.routine).get(at.place)
@@ -456,6 +457,10 @@ pub fn step(
             step_put(
                 frames, alloc, design, &values, out, at, value, scope, stepped,
             )
+        }
+        Some(Frame::Children { at, scope }) => {
+            let (at, scope) = (*at, *scope);
+            step_children(frames, design, out, at, scope, stepped)
         }
         Some(
             Frame::Called {

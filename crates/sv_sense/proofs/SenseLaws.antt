@@ -1,5 +1,6 @@
 -- What is kept covers what is waited for.
-use Rattle.std.proofs.Common.{◌≡◌, ℕ, zero, suc, Bool, true, false, List, [], ◌∷◌, Option, None, Some, refl, sym, ap, ◌∙◌, subst, arith, length, map, inl, inr}
+use Rattle.std.proofs.Common.{◌≡◌, ℕ, zero, suc, ◌<◌, ◌≤◌, Bool, true, false, List, [], ◌∷◌, ◌++◌, Option, None, Some, refl, sym, ap, ◌∙◌, subst, arith, length, map, inl, inr}
+use Rattle.std.proofs.lemmas.Bool.{cases_eq}
 use Rattle.std.specs.Prelude.{slice_index_or, slice_set, if◌then◌else◌, ◌⊎◌, OnOk, Result, Ok, Err}
 use Rattle.sv_value.specs.declared.number.ObjId.{ObjId}
 use Rattle.sv_value.specs.declared.number.ProcessId.{ProcessId}
@@ -80,17 +81,18 @@ all_forgot d ws p ls all h = record { each = λ q v e. by_case q v (set_cases ws
 -- ---- the whole
 
 pub covers_none : (d : Parts) (s : Sensed) → s.waits ≡ map (λ p. None) d.processes → s.known ≡ map (λ p. None) d.processes → s.all ≡ from_on 0 (length d.processes) → Covers d s
-covers_none d s ws ks as' = record {
-  waits_count = ap length ws ∙ length-none d.processes;
-  known_count = ap length ks ∙ length-none d.processes;
-  everyone = λ p h. ap (is_in p) as' ∙ in_all 0 (length d.processes) p (omega arith) (omega arith);
-  waiting = subst (λ (xs : List (Option Wait)). AllRegistered d xs s.watchers s.all) (sym ws) (all_none d s.watchers s.all);
-  registered = subst (λ (xs : List (Option Wait)). AllRegistered d xs s.watchers s.all) (sym ks) (all_none d s.watchers s.all);
-}
+covers_none d s ws ks as' =
+    let waits : length s.waits ≡ length d.processes = ap length ws ∙ length-none d.processes in
+    let known : length s.known ≡ length d.processes = ap length ks ∙ length-none d.processes in
+    record {
+      known_count = omega (arith, waits, known);
+      everyone = λ p h. ap (is_in p) as' ∙ in_all 0 (length d.processes) p (omega arith) (omega (arith, h, waits));
+      waiting = subst (λ (xs : List (Option Wait)). AllRegistered d xs s.watchers s.all) (sym ws) (all_none d s.watchers s.all);
+      registered = subst (λ (xs : List (Option Wait)). AllRegistered d xs s.watchers s.all) (sym ks) (all_none d s.watchers s.all);
+    }
 
 pub covers_grown : (d : Parts) (s u : Sensed) (ls : List (List ProcessId)) → Covers d s → Grows s.watchers ls → u ≡ record s { watchers = ls } → Covers d u
 covers_grown d s u ls c g is = subst (Covers d) (sym is) (record {
-  waits_count = c.waits_count;
   known_count = c.known_count;
   everyone = c.everyone;
   waiting = all_grown d s.waits s.watchers ls s.all g c.waiting;
@@ -101,43 +103,110 @@ covers_grown d s u ls c g is = subst (Covers d) (sym is) (record {
 pub covers_known : (d : Parts) (s u : Sensed) (p : ProcessId) (w : Wait) → Covers d s → Registered p (wait_objects d w) s.watchers s.all
     → u ≡ record s { known = slice_set s.known p.0 (Some w) } → Covers d u
 covers_known d s u p w c r is = subst (Covers d) (sym is) (record {
-  waits_count = c.waits_count;
-  known_count = length-set_at s.known p.0 (Some w) ∙ c.known_count;
+  known_count = subst (λ (n : ℕ). length s.waits ≤ n) (sym (length-set_at s.known p.0 (Some w))) c.known_count;
   everyone = c.everyone;
   waiting = c.waiting;
   registered = all_set d s.known p w s.watchers s.all c.registered r;
 })
 
+-- other waits of as many processes
+covers_waits : (d : Parts) (s : Sensed) (ws : List (Option Wait)) → Covers d s → length ws ≡ length s.waits → AllRegistered d ws s.watchers s.all
+    → Covers d (record s { waits = ws })
+covers_waits d s ws c same r = record {
+  known_count = subst (λ (n : ℕ). n ≤ length s.known) (sym same) c.known_count;
+  everyone = λ p h. c.everyone p (subst (λ (n : ℕ). p.0 < n) same h);
+  waiting = r;
+  registered = c.registered;
+}
+
 -- a process waits
 pub covers_wait : (d : Parts) (s u : Sensed) (p : ProcessId) (w : Wait) → Covers d s → Registered p (wait_objects d w) s.watchers s.all
     → u ≡ record s { waits = slice_set s.waits p.0 (Some w) } → Covers d u
-covers_wait d s u p w c r is = subst (Covers d) (sym is) (record {
-  waits_count = length-set_at s.waits p.0 (Some w) ∙ c.waits_count;
-  known_count = c.known_count;
-  everyone = c.everyone;
-  waiting = all_set d s.waits p w s.watchers s.all c.waiting r;
-  registered = c.registered;
-})
+covers_wait d s u p w c r is =
+    subst (Covers d) (sym is)
+    (covers_waits d s (slice_set s.waits p.0 (Some w)) c (length-set_at s.waits p.0 (Some w)) (all_set d s.waits p w s.watchers s.all c.waiting r))
 
 -- a process waits no longer
 pub covers_forgot : (d : Parts) (s u : Sensed) (p : ProcessId) → Covers d s → u ≡ record s { waits = slice_set s.waits p.0 None } → Covers d u
-covers_forgot d s u p c is = subst (Covers d) (sym is) (record {
-  waits_count = length-set_at s.waits p.0 None ∙ c.waits_count;
-  known_count = c.known_count;
-  everyone = c.everyone;
-  waiting = all_forgot d s.waits p s.watchers s.all c.waiting;
-  registered = c.registered;
-})
+covers_forgot d s u p c is =
+    subst (Covers d) (sym is)
+    (covers_waits d s (slice_set s.waits p.0 None) c (length-set_at s.waits p.0 None) (all_forgot d s.waits p s.watchers s.all c.waiting))
 
 -- some are woken
 pub covers_left : (d : Parts) (s u : Sensed) (t : Option Wait → Bool) → Covers d s → u ≡ record s { waits = waits_after t s.waits } → Covers d u
-covers_left d s u t c is = subst (Covers d) (sym is) (record {
-  waits_count = length-after t s.waits ∙ c.waits_count;
+covers_left d s u t c is =
+    subst (Covers d) (sym is)
+    (covers_waits d s (waits_after t s.waits) c (length-after t s.waits) (record { each = λ p w h. c.waiting.each p w (still_waits t s.waits p.0 w h) }))
+
+-- ---- a process more
+
+-- all watch an object that the design has not, and they are more
+pub record AllGrow (before after : List ProcessId) : Type 0 where
+  pub kept : (p : ProcessId) → is_in p before ≡ true → is_in p after ≡ true
+
+wider_watchers : (ls : List (List ProcessId)) (i : ℕ) (before after : List ProcessId) (p : ProcessId) → AllGrow before after → is_in p (slice_index_or ls i before) ≡ true
+    → is_in p (slice_index_or ls i after) ≡ true
+wider_watchers [] i before after p g h = g.kept p h
+wider_watchers (l ∷ ls) zero before after p g h = h
+wider_watchers (l ∷ ls) (suc i) before after p g h = wider_watchers ls i before after p g h
+
+all_wider : (d : Parts) (ws : List (Option Wait)) (ls : List (List ProcessId)) (before after : List ProcessId) → AllGrow before after → AllRegistered d ws ls before → AllRegistered d ws ls after
+all_wider d ws ls before after g h =
+    record { each = λ p w e. record { each = λ o among. wider_watchers ls o.0 before after p g ((h.each p w e).each o among) } }
+
+pub covers_all : (d : Parts) (s u : Sensed) (all : List ProcessId) → Covers d s → AllGrow s.all all → u ≡ record s { all = all } → Covers d u
+covers_all d s u all c g is = subst (Covers d) (sym is) (record {
   known_count = c.known_count;
-  everyone = c.everyone;
-  waiting = record { each = λ p w h. c.waiting.each p w (still_waits t s.waits p.0 w h) };
-  registered = c.registered;
+  everyone = λ p h. g.kept p (c.everyone p h);
+  waiting = all_wider d s.waits s.watchers s.all all g c.waiting;
+  registered = all_wider d s.known s.watchers s.all all g c.registered;
 })
+
+-- the one that is added waits for nothing
+none_added : (ws : List (Option Wait)) (i : ℕ) (w : Wait) → slice_index_or (ws ++ None ∷ []) i None ≡ Some w → slice_index_or ws i None ≡ Some w
+none_added [] zero w h = h
+none_added [] (suc i) w h = h
+none_added (v ∷ ws) zero w h = h
+none_added (v ∷ ws) (suc i) w h = none_added ws i w h
+
+all_added : (d : Parts) (ws : List (Option Wait)) (ls : List (List ProcessId)) (all : List ProcessId) → AllRegistered d ws ls all → AllRegistered d (ws ++ None ∷ []) ls all
+all_added d ws ls all h = record { each = λ p w e. h.each p w (none_added ws p.0 w e) }
+
+length-added : (ws : List (Option Wait)) → length (ws ++ None ∷ []) ≡ suc (length ws)
+length-added [] = refl
+length-added (w ∷ ws) = ap suc (length-added ws)
+
+pub covers_known_more : (d : Parts) (s u : Sensed) → Covers d s → u ≡ record s { known = s.known ++ None ∷ [] } → Covers d u
+covers_known_more d s u c is =
+    let more = length-added s.known in
+    let few = c.known_count in
+    subst (Covers d) (sym is) (record {
+      known_count = omega (arith, more, few);
+      everyone = c.everyone;
+      waiting = c.waiting;
+      registered = all_added d s.known s.watchers s.all c.registered;
+    })
+
+-- a process more, which all those that watch have
+pub covers_more : (d : Parts) (s u : Sensed) (all : List ProcessId) (p : ProcessId) → Covers d s → AllGrow s.all all → is_in p all ≡ true → p.0 ≡ length s.waits
+    → u ≡ record { waits = s.waits ++ None ∷ []; known = s.known ++ None ∷ []; watchers = s.watchers; all = all } → Covers d u
+covers_more d s u all p c g new number is =
+    let waits = length-added s.waits in
+    let known = length-added s.known in
+    let few = c.known_count in
+    subst (Covers d) (sym is) (record {
+      known_count = omega (arith, waits, known, few);
+      everyone = λ q h. one q h (cases_eq q.0 p.0);
+      waiting = all_wider d (s.waits ++ None ∷ []) s.watchers s.all all g (all_added d s.waits s.watchers s.all c.waiting);
+      registered = all_wider d (s.known ++ None ∷ []) s.watchers s.all all g (all_added d s.known s.watchers s.all c.registered);
+    })
+  where
+    one : (q : ProcessId) → q.0 < length (s.waits ++ None ∷ []) → (q.0 ≡ p.0) ⊎ (q.0 ≡ p.0 → ⊥) → is_in q all ≡ true
+    one q h (inl e) = ap (λ (n : ℕ). is_in (record { 0 = n }) all) e ∙ new
+    one q h (inr e) = (let waits = length-added s.waits in g.kept q (c.everyone q (below q.0 (length s.waits) (length (s.waits ++ None ∷ [])) p.0 h waits number e)))
+      where
+        below : (a n m b : ℕ) → a < m → m ≡ suc n → b ≡ n → (a ≡ b → ⊥) → a < n
+        below a n m b h e f k = omega (arith, h, e, f, k)
 
 -- ---- a change
 

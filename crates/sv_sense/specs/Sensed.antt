@@ -1,5 +1,5 @@
 -- What is kept to find whom a change wakes.
-use Rattle.std.specs.Prelude.{◌≡◌, ◌<◌, true, List, Option, Some, length, slice_index_or}
+use Rattle.std.specs.Prelude.{◌≡◌, ◌<◌, ◌≤◌, true, List, Option, Some, length, slice_index_or}
 use Rattle.sv_value.specs.declared.number.ObjId.{ObjId}
 use Rattle.sv_value.specs.declared.number.ProcessId.{ProcessId}
 use Rattle.sv_flat.specs.declared.design.Parts.{Parts}
@@ -26,8 +26,7 @@ pub record AllRegistered (d : Parts) (ws : List (Option Wait)) (lists : List (Li
 
 -- who waits is registered, and so is what is known
 pub record Covers (d : Parts) (s : Sensed) : Type 0 where
-  pub waits_count : length s.waits ≡ length d.processes
-  pub known_count : length s.known ≡ length d.processes
-  pub everyone : (p : ProcessId) → p.0 < length d.processes → is_in p s.all ≡ true
+  pub known_count : length s.waits ≤ length s.known
+  pub everyone : (p : ProcessId) → p.0 < length s.waits → is_in p s.all ≡ true
   pub waiting : AllRegistered d s.waits s.watchers s.all
   pub registered : AllRegistered d s.known s.watchers s.all

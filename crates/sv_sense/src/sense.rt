@@ -1,5 +1,5 @@
 // For what each process waits, and whom a change of an object wakes.
-ghost use Rattle.std.specs.Prelude.{◌≡◌, ◌<◌, IfOk, OnOk, OnErr, IsTrue, length, map, Some, None, [], slice_get, slice_set, slice_index_or};
+ghost use Rattle.std.specs.Prelude.{◌≡◌, ◌<◌, ◌^◌, ◌∷◌, ◌++◌, IfOk, OnOk, OnErr, IsTrue, length, map, Some, None, [], slice_get, slice_set, slice_index_or};
 ghost use Rattle.sv_flat.specs.declared.design.Parts.{Parts};
 ghost use Rattle.sv_built.specs.Built.{IsBuilt};
 ghost use Rattle.sv_sense.specs.Objects as objects;
@@ -90,6 +90,20 @@ impl Sense {
         })
     }
 
+    /// A process more, behind the others, which waits for nothing. Without memory there is none more.
+    pub fn add(&mut self) -> Result<(), NoMemory>
+        requires { length self.old.waits < 2 ^ 32 }
+        ensures ok { OnOk result (self.new.waits ≡ self.old.waits ++ None ∷ []) }
+        ensures err { OnErr result (self.new.waits ≡ self.old.waits) }
+        ensures covers { (d : Parts) → Covers d self.old → Covers d self.new }
+    {
+        let process = ProcessId(self.waits.len() as u32);
+        self.all.add(process)?;
+        self.known.push(None)?;
+        self.waits.push(None)?;
+        Ok(())
+    }
+
     /// For what a process waits, if it does.
     pub fn get(&self, process: ProcessId) -> Option<Wait>
         requires { process.0 < length self.now.waits }
@@ -117,7 +131,7 @@ impl Sense {
         process: ProcessId,
         wait: Wait,
     ) -> Result<(), NoMemory>
-        requires known { process.0 < length design.now.processes }
+        requires known { process.0 < length self.old.waits }
         requires covers { Covers design.now self.old }
         ensures waits { self.new.waits ≡ self.old.waits }
         ensures covers { Covers design.now self.new }
@@ -140,7 +154,7 @@ impl Sense {
         process: ProcessId,
         wait: Wait,
     ) -> Result<(), NoMemory>
-        requires known { process.0 < length design.now.processes }
+        requires known { process.0 < length self.old.waits }
         requires covers { Covers design.now self.old }
         ensures ok { OnOk result (self.new.waits ≡ slice_set self.old.waits process.0 (Some wait)) }
         ensures err { OnErr result (self.new.waits ≡ self.old.waits) }

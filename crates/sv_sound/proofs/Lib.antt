@@ -3,8 +3,14 @@ pub mod Static
 pub mod Weights
 pub mod Plain
 pub mod States
+pub mod Related
 pub mod Wakes
 pub mod Occurs
+pub mod Changes
+pub mod Running
+pub mod Ended
+pub mod Descendants
+pub mod Forks
 pub mod EffectSound
 pub mod MicroPlain
 pub mod Opening

@@ -32,6 +32,7 @@ use Rattle.sv_flat.specs.declared.stmt.Stmt.{Stmt}
 use Rattle.sv_flat.specs.declared.stmt.Form.{Form}
 use Rattle.sv_flat.specs.declared.stmt.Form.TheVariants as form
 use Rattle.sv_flat.specs.declared.stmt.PrintKind.TheVariants as print
+use Rattle.sv_flat.specs.declared.stmt.JoinKind.{JoinKind}
 use Rattle.sv_flat.specs.declared.target.Lvalue.{Lvalue}
 use Rattle.sv_flat.specs.declared.target.Base.{Base}
 use Rattle.sv_flat.specs.declared.target.Base.TheVariants as base
@@ -40,8 +41,8 @@ use Rattle.sv_flat.specs.Expr.{Expr}
 use Rattle.sv_flat.specs.Eval.{value_of, vector_in, with_result, element_count}
 use Rattle.sv_flat.specs.State.{Name, View}
 use Rattle.sv_flat.specs.Targets.{Placed, based, cell_at, variable_at, element_at, looked_through, range_of, spot_of, spots_of, target_values}
-use Rattle.sv_flat.specs.Process.{ProcessState, Todo, Leave, Output, Return, Do, Turn, Turns, Put, Walk, Walk_elements, Spot, Variable_of, Effect, Enter, Write, Suspend, Resume_at, Update_at, Print_text, Keep_print, Finish_run, End, Watches, types_of, body_in, optional_body_in, routine_of}
-use Rattle.sv_flat.specs.Statements.{executed, returned, branch, printed, scheduled_for}
+use Rattle.sv_flat.specs.Process.{ProcessState, Todo, Leave, Output, Return, Do, Turn, Turns, Put, Walk, Walk_elements, Start_children, Spot, Variable_of, Effect, Enter, Write, Suspend, Resume_at, Update_at, Spawn, End_descendants, Print_text, Keep_print, Finish_run, End, Watches, types_of, body_in, optional_body_in, routine_of}
+use Rattle.sv_flat.specs.Statements.{executed, returned, branch, printed, scheduled_for, spawn, forked}
 use Rattle.sv_flat.specs.Statements.Shared.{Effects, Site, goes_on, waits, ending, from_result, value_in, values_of, written, updates_for, assigned, fails, count_of, result_write}
 use Rattle.sv_flat.specs.Statements.Loops.{turned, body_first, done_first, repeated, inside, entered_with, element_turn, element_index, int_type, name_or}
 use Rattle.sv_flat.specs.Statements.Jumps.{after_break, after_continue, after_return, open_calls, step_of}
@@ -161,6 +162,7 @@ module _ (d : Parts) (b : IsBuilt d) where
   break_plain (Walk_elements s n scope ∷ rest) h = h.1
   break_plain (Do s cs outer hidden ∷ rest) h = break_plain rest h.1
   break_plain (Leave at r ∷ rest) h = break_plain rest h.1
+  break_plain (Start_children at cs j scope ∷ rest) h = break_plain rest h.1
   break_plain (Put at ts x scope ∷ rest) h = break_plain rest h.1
   break_plain (t ∷ rest) h = absurd h.0
 
@@ -173,6 +175,7 @@ module _ (d : Parts) (b : IsBuilt d) where
   continue_plain (Walk_elements s n scope ∷ rest) h = h
   continue_plain (Do s cs outer hidden ∷ rest) h = continue_plain rest h.1
   continue_plain (Leave at r ∷ rest) h = continue_plain rest h.1
+  continue_plain (Start_children at cs j scope ∷ rest) h = continue_plain rest h.1
   continue_plain (Put at ts x scope ∷ rest) h = continue_plain rest h.1
   continue_plain (t ∷ rest) h = absurd h.0
 
@@ -180,6 +183,7 @@ module _ (d : Parts) (b : IsBuilt d) where
   return_plain [] h = tt
   return_plain (Leave at r ∷ rest) h = h
   return_plain (Turn l scope ∷ rest) h = return_plain rest h.1
+  return_plain (Start_children at cs j scope ∷ rest) h = return_plain rest h.1
   return_plain (Turns at n r scope ∷ rest) h = return_plain rest h.1
   return_plain (Walk_elements s n scope ∷ rest) h = return_plain rest h.1
   return_plain (Do s cs outer hidden ∷ rest) h = return_plain rest h.1
@@ -238,6 +242,20 @@ module _ (d : Parts) (b : IsBuilt d) where
   -- the index of a walk is an `int`
   int_built : IsBuiltType int_type
   int_built = (omega arith, omega arith)
+
+  -- ---- forks
+
+  spawn_plain : (cs : List RoutineId) (j : JoinKind) (scope : Option Name) (rest : List Todo) → ArePlainTodos rest → (before : Effects) → ArePlainEffects before
+      → ArePlainEffects (spawn cs j scope rest before)
+  spawn_plain cs j scope rest k before e =
+      (k, all_append IsPlainEffect before (Spawn cs scope j ∷ ending rest) e (tt, ending_plain rest))
+
+  forked_plain : (here : Site) → ArePlainTodos here.rest → (r : Option RoutineId) (cs : List RoutineId) (j : JoinKind) (scope : Option Name) (before : Effects) → ArePlainEffects before
+      → ArePlainEffects (forked d here r cs j scope before)
+  forked_plain here k None cs j scope before e = spawn_plain cs j scope here.rest k before e
+  forked_plain here k (Some r) cs j scope before e =
+      goes_plain (body_in d r scope ++ Start_children here.at cs j scope ∷ here.rest)
+      (all_append IsPlainTodo (body_in d r scope) (Start_children here.at cs j scope ∷ here.rest) (body_plain d b r scope) (tt, k)) before e
 
   -- ---- calls
 
@@ -408,6 +426,9 @@ module _ (d : Parts) (b : IsBuilt d) where
     form_plain (form.Delay e in_ticks) h = value_plain e here.view _ (λ n. (k, delayed_plain (ticks_of in_ticks (vector_in n) here.view) here.view))
     form_plain (form.At ws) h = (k, (subst (AllByRecursion IsBuiltWatch) (sym (all_frozen_built here.view ws h)) h, tt))
     form_plain (form.Wait e) h = value_plain e here.view _ (λ x. waited (is_true (vector_in x)) e h)
+    form_plain (form.Fork vs initializers children join) h = forked_plain here k initializers children join (inside vs outer name) (entered_with vs outer) (entered_plain vs h outer)
+    form_plain form.WaitFork h = (k, (tt, ending_plain rest))
+    form_plain form.DisableFork h = goes_plain rest k (End_descendants ∷ []) (one_plain End_descendants tt)
     form_plain (form.Print print.Now ps es) h = prints (values_of es here.view) ps
     form_plain (form.Print print.Strobe ps es) h = goes_plain rest k (Keep_print print.Strobe ps es ∷ []) (one_plain (Keep_print print.Strobe ps es) tt)
     form_plain (form.Print print.Monitor ps es) h = absurd h.0
@@ -442,6 +463,7 @@ module _ (d : Parts) (b : IsBuilt d) where
   todos_micro look p name handed (Leave at r ∷ rest) h = left_plain r h.0 (look r.callee) (look r.caller) rest h.1
   todos_micro look p name handed (Turns at n r scope ∷ rest) h = repeated_plain at n r scope rest h.1
   todos_micro look p name handed (Walk_elements s n scope ∷ rest) h = on_plain look p name s h.0 s.form n scope rest h.1
+  todos_micro look p name handed (Start_children at cs j scope ∷ rest) h = spawn_plain cs j scope rest h.1 [] tt
   todos_micro look p name handed (Put at ts x scope ∷ rest) h = put_plain ts h.0 x (look scope) rest h.1
   todos_micro look p name handed (t ∷ rest) h = absurd h.0
 

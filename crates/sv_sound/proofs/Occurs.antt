@@ -1,9 +1,10 @@
 -- What each effect of a built design leaves.
 use Rattle.std.proofs.Common.{ℕ, ◌≡◌, List, [], ◌∷◌, ◌++◌, Option, None, Some, Bool, true, false, cond, refl, ap, ◌∙◌, slice_get, slice_set, filter, map, length}
-use Rattle.std.specs.Prelude.{Result, Ok, Err, ◌+◌, ◌^◌, nat_lt, IsNone, ◌&&◌, not, is_some, if◌then◌else◌}
+use Rattle.std.specs.Prelude.{Result, Ok, Err, ◌+◌, ◌^◌, nat_lt, IsNone, ◌&&◌, ◌||◌, not, is_some, if◌then◌else◌}
 use Rattle.std.specs.List.{AllByRecursion}
 use Rattle.std.proofs.lemmas.Bool.{eq-eqb}
 use Rattle.sv_value.specs.declared.number.ProcessId.{ProcessId}
+use Rattle.sv_value.specs.declared.number.RoutineId.{RoutineId}
 use Rattle.sv_value.specs.declared.place.Place.{Place}
 use Rattle.sv_value.specs.declared.place.FaultKind.{FaultKind}
 use Rattle.sv_value.specs.declared.place.FaultKind.TheVariants as fault
@@ -23,16 +24,17 @@ use Rattle.sv_flat.specs.declared.process.ProcessKind.{ProcessKind}
 use Rattle.sv_flat.specs.declared.process.ProcessKind.TheVariants as kind
 use Rattle.sv_flat.specs.declared.process.Watch.{Watch}
 use Rattle.sv_flat.specs.declared.stmt.PrintKind.TheVariants as print
+use Rattle.sv_flat.specs.declared.stmt.JoinKind.{JoinKind}
 use Rattle.sv_flat.specs.Expr.{Expr}
 use Rattle.sv_flat.specs.State.{Name, Heap, World, first_value}
 use Rattle.sv_flat.specs.Eval.{with_result}
 use Rattle.sv_flat.specs.Process
-use Rattle.sv_flat.specs.Process.{ProcessState, Status, Waiting, Moment, Turn_in_slot, Watches, Todo, Effect, Spot, Cell, Variable_of, Remain, Enter, Write, Suspend, Resume_at, Update_at, Print_text, Keep_print, Finish_run, End, Fail, body_in}
-use Rattle.sv_flat.specs.Config.{Config, process_at, set_at, with_process, first_process, numbers_of, side_in, side_of, met_fault}
-use Rattle.sv_flat.specs.Effects.{all_occurred, occurred, applied, after_change, clocks_from, occurrence, event_waiters, woken_by_effect, world_after, scheduled_after, with_world, made_by, may_go_on}
+use Rattle.sv_flat.specs.Process.{ProcessState, Status, Waiting, Moment, Turn_in_slot, Watches, Todo, Effect, Spot, Cell, Variable_of, Remain, Enter, Write, Suspend, Resume_at, Update_at, Spawn, Await_children, End_descendants, Print_text, Keep_print, Finish_run, End, Fail, body_in}
+use Rattle.sv_flat.specs.Config.{Config, process_at, set_at, with_process, first_process, numbers_of, side_in, side_of, all_made_ready, met_fault}
+use Rattle.sv_flat.specs.Effects.{is_in, woken_by, all_occurred, occurred, applied, after_change, clocks_from, occurrence, event_waiters, woken_by_effect, world_after, scheduled_after, with_world, made_by, may_go_on}
 use Rattle.sv_flat.specs.Effects.Creation.{entered, fresh_value, fresh_values}
-use Rattle.sv_flat.specs.Effects.Ends.{is_running, ended, at_end, program_checked}
-use Rattle.sv_flat.specs.Effects.Scheduling.{scheduled, suspended, update_scheduled}
+use Rattle.sv_flat.specs.Effects.Ends.{is_running, ended, all_ended, at_end, joined, descendants, living_children, program_checked}
+use Rattle.sv_flat.specs.Effects.Scheduling.{scheduled, suspended, update_scheduled, spawned, awaiting}
 use Rattle.sv_flat.specs.Effects.Writes.{variable_over}
 use Rattle.sv_built.specs.Built.{IsBuiltType}
 use Rattle.sv_sound.specs.Sound.{IsCell}
@@ -66,6 +68,14 @@ module _ (d : Parts) (none : d.clockings ≡ []) (at : Place) (p : ProcessId) (c
       ∙ ap (λ (ks : List Clocking). record (applied d at p e c) { regions = clocks_from 0 ks c (applied d at p e c) (applied d at p e c).regions }) none
       ∙ ap (with_world d at p e c) k
 
+  -- it wakes nobody
+  pub quiet_is : (e : Effect) → occurrence e ≡ None → event_waiters e c ≡ [] → occurred d at p e c ≡ applied d at p e c
+  quiet_is e o w =
+      let new = applied d at p e c in
+      (λ i. after_change d (filter (λ q. is_in q (w i) || is_in q (woken_by d (o i) c new)) (numbers_of c)) c new)
+      ∙ ap (λ ps. after_change d ps c new) (none_kept (numbers_of c))
+      ∙ ap (λ (ks : List Clocking). record new { regions = clocks_from 0 ks c new new.regions }) none
+
   pub fail_is : (k : FaultKind) → occurred d at p (Fail k) c ≡ met_fault k at c
   fail_is k =
       ap (λ ps. after_change d ps c (met_fault k at c)) (none_kept (numbers_of c))
@@ -73,6 +83,16 @@ module _ (d : Parts) (none : d.clockings ≡ []) (at : Place) (p : ProcessId) (c
 
   pub finish_is : occurred d at p Finish_run c ≡ record c { finishing = true }
   finish_is = quiet Finish_run refl refl refl (none_kept (numbers_of c))
+
+  pub await_is : occurred d at p Await_children c ≡ awaiting p (living_children c p) c
+  await_is = quiet Await_children refl refl refl (none_kept (numbers_of c))
+
+  pub disable_is : occurred d at p End_descendants c ≡ all_ended (descendants c p) c
+  disable_is = quiet End_descendants refl refl refl (none_kept (numbers_of c))
+
+  -- a process that was forked is at the end of its body
+  pub end_forked : first_process d p ≡ None → occurred d at p End c ≡ all_made_ready (joined (ended p c)) (ended p c)
+  end_forked e = quiet End refl refl refl (none_kept (numbers_of c)) ∙ ap (λ o. at_end d p o c) e
 
   pub now_is : (ps : List Piece) (es : List Expr) → occurred d at p (Keep_print print.Now ps es) c ≡ c
   now_is ps es = quiet (Keep_print print.Now ps es) refl refl refl (none_kept (numbers_of c))
@@ -136,6 +156,9 @@ module _ (d : Parts) (none : d.clockings ≡ []) (at : Place) (p : ProcessId) (c
     watch_is ws scope =
         quiet (Suspend (Watches ws scope)) refl refl refl (none_kept (numbers_of c))
         ∙ changed (λ q. record q { latest = Waiting (Watches ws scope) }) (record c { running = None }) refl
+
+    pub spawn_is : (rs : List RoutineId) (scope : Option Name) (k : JoinKind) → occurred d at p (Spawn rs scope k) c ≡ spawned d at p rs scope k (Some q) c
+    spawn_is rs scope k = quiet (Spawn rs scope k) refl refl refl (none_kept (numbers_of c)) ∙ ap (λ o. spawned d at p rs scope k o c) is
 
     -- an activation more
     pub enter_is : (ts : List DataType) → AllByRecursion IsBuiltType ts → (around : Option Name) → occurred d at p (Enter ts around) c ≡ entering at p q ts around c

@@ -1,8 +1,9 @@
 -- The opening configuration of a built design is sound.
 use Rattle.std.proofs.Common.{ℕ, suc, ◌≡◌, ◌+◌, ◌≤◌, List, [], ◌∷◌, ◌++◌, Option, None, Some, Bool, true, false, cond, refl, ap, subst, sym, ◌∙◌, arith, slice_get, map}
-use Rattle.std.specs.Prelude.{Result, Ok, Err, ◌&&◌, ◌||◌, filter, sum_by, if◌then◌else◌}
+use Rattle.std.specs.Prelude.{option_map, length, Result, Ok, Err, ◌&&◌, ◌||◌, filter, sum_by, if◌then◌else◌}
 use Rattle.std.specs.List.{AllByRecursion, list_any}
 use Rattle.std.proofs.lemmas.List.Sums.{sum_by-cons}
+use Rattle.std.proofs.lemmas.Option.{slice_get-map}
 use Rattle.sv_value.specs.declared.number.ProcessId.{ProcessId}
 use Rattle.sv_value.specs.declared.place.FaultKind.{FaultKind}
 use Rattle.sv_value.specs.declared.schedule.Side.{Side}
@@ -24,7 +25,7 @@ use Rattle.sv_flat.specs.Config.{starts, is_always_comb, state_test, numbered_fr
 use Rattle.sv_flat.specs.Opening.{opening, opening_world, initializers_run, initializer_run, initialized, objects_added, with_first, stored, opening_process, first_status, is_ready, empty_world}
 use Rattle.sv_flat.specs.Clocks.{opening_clock}
 use Rattle.sv_built.specs.Built.{IsBuiltObject, IsBuiltType, IsBuiltInitial, IsBuiltProcess, IsBuilt}
-use Rattle.sv_sound.specs.Sound.{IsSound, AreAwaited, AreStates, is_pending, is_parked, parked_weight, weight_of_all, weight_of_event}
+use Rattle.sv_sound.specs.Sound.{IsSound, AreAwaited, AreStates, is_pending, is_parked, parked_weight, weight_of_event, AreChildren, is_complete, IsRelated, AreRelated, IsMadeBy}
 use Rattle.sv_sound.proofs.Weights.{standing_weight}
 use Rattle.sv_sound.proofs.Plain.{body_plain}
 use Rattle.sv_sound.proofs.Wakes.{TestsStates}
@@ -149,9 +150,29 @@ module _ (d : Parts) (b : IsBuilt d) where
       by_status true l h = absurd (cc)
       by_status false l h = absurd (cc)
 
-  numbered-map : {A B : Type 0} (f : A → B) (n : ℕ) (xs : List A) → numbered_from n (map f xs) ≡ numbered_from n xs
-  numbered-map f n [] = refl
-  numbered-map f n (x ∷ xs) = ap (λ (ps : List ProcessId). record { 0 = n } ∷ ps) (numbered-map f (n + 1) xs)
+  opened_related : (p : ProcessId) (y : Bool) (f : Process) (qs : List ProcessState) → AreChildren qs p (first_status y f) × (is_complete qs (first_status y f) ≡ false)
+  opened_related p y f qs = by_test (is_always_comb f.kind && y)
+    where
+      by_test : (z : Bool) → AreChildren qs p (if z then Waiting Start else Ready) × (is_complete qs (if z then Waiting Start else Ready) ≡ false)
+      by_test true = (tt, refl)
+      by_test false = (tt, refl)
+
+  all_related : AreRelated (all_states d b)
+  all_related = record {
+    few = (let f = b.few_processes in let e = length_map d.processes in omega (arith, e, f));
+    each = λ p q is. by_process p q (slice_get d.processes p.0) (sym (slice_get-map (opening_process d) d.processes p.0) ∙ is);
+  }
+    where
+      length_map : (fs : List Process) → length (map (opening_process d) fs) ≡ length fs
+      length_map [] = refl
+      length_map (f ∷ fs) = ap suc (length_map fs)
+
+      by_process : (p : ProcessId) (q : ProcessState) (o : Option Process) → option_map (opening_process d) o ≡ Some q → IsRelated (all_states d b) p q
+      by_process p q None e = absurd (cc)
+      by_process p q (Some f) e =
+          let w = opened_related p (list_any starts d.processes) f (all_states d b) in
+          let same : opening_process d f ≡ q = cc in
+          subst (IsRelated (all_states d b) p) same (record { parent = tt; children = w.0; waits = w.1 })
 
   pub opening_sound : IsSound d (opening d)
   opening_sound =
@@ -162,11 +183,12 @@ module _ (d : Parts) (b : IsBuilt d) where
         plain = record { active = record { jobs = tt; updates = tt; clocks = refl }; reactive = record { jobs = tt; updates = tt; clocks = refl } };
         each_event = tt;
         states = subst (λ y. AreStates y d.processes (all_states d b)) (sym (pends d b d.processes)) (states_are d b d.processes b.each_process);
+        related = all_related;
+        made = subst (AllByRecursion (IsMadeBy (all_states d b))) (sym (ap (λ (w : World). w.activations) (opening_only d b).is)) tt;
         weights = λ w.
             let s = standing_weight w (opening d).regions in
             let l = three_weights w _ _ _ _ 0 (all_states d b) (tests Active) (tests Reactive) apart (ready_not_parked Active) (ready_not_parked Reactive) in
-            let e : sum_by w (numbered_from 0 (all_states d b)) ≡ weight_of_all w d = ap (sum_by w) (numbered-map (opening_process d) 0 d.processes) in
             let z : sum_by (weight_of_event w) [] ≡ 0 = refl in
             let y : sum_by w [] ≡ 0 = refl in
-            omega (arith, s, l, e, z, y);
+            omega (arith, s, l, z, y);
       }

@@ -15,7 +15,7 @@ use Rattle.sv_value.specs.declared.schedule.Event.{Event}
 use Rattle.sv_value.specs.declared.schedule.Job.{Job}
 use Rattle.sv_value.specs.declared.schedule.Job.TheVariants.{Update, Clock}
 use Rattle.sv_value.specs.declared.schedule.Update.{Update as Part}
-use Rattle.sv_value.specs.Regions.{Regions, Set, with_set, standing, pickable, moved, due_in, ready_in, front_of}
+use Rattle.sv_value.specs.Regions.{Regions, Set, with_set, standing, pickable, moved, due_in}
 use Rattle.sv_flat.specs.declared.choices.Choices.{Choices}
 use Rattle.sv_flat.specs.declared.process.Process.{Process}
 use Rattle.sv_flat.specs.declared.design.Parts.{Parts}
@@ -31,11 +31,14 @@ use Rattle.sv_flat.proofs.Opens.{open_kind}
 use Rattle.sv_built.specs.Built.{IsBuilt}
 use Rattle.sv_sound.specs.Sound.{IsSound, IsPlainEvent, IsPlainSet, IsPlainJob, ArePlain, AreStates, is_pending, pending_count, is_parked, weight_of_event}
 use Rattle.sv_sound.specs.After.{with_state, taken_short, taken_off, is_last}
-use Rattle.sv_sound.proofs.Weights.{all_filter, there, removed_weight, ready_weight, due_weight, with_set_weight, moved_weight, parked_still, parked_done, one, one_self, once}
-use Rattle.sv_sound.proofs.Plain.{plain_of, plain_with, same_jobs, plain_ready, plain_due, plain_moved}
-use Rattle.sv_sound.proofs.States.{state_found, set_free, set_any, weaker, pending_same, pending_taken, pending_none, pending_counted, not_parked}
+use Rattle.sv_sound.proofs.Weights.{all_filter, there, removed_weight, due_weight, with_set_weight, moved_weight, parked_still, parked_done, all_still, one, one_self, once}
+use Rattle.sv_sound.proofs.Plain.{plain_of, plain_with, same_jobs, plain_due, plain_moved}
+use Rattle.sv_sound.proofs.States.{state_found, set_free, weaker, pending_same, pending_taken, pending_none, pending_counted, not_parked}
+use Rattle.sv_sound.proofs.Related.{made_set}
 use Rattle.sv_sound.proofs.Wakes.{write_is, other_process}
-use Rattle.sv_sound.proofs.EffectSound.{known, found, change_sound, running_known, runs_calm, state_sound, all_sound}
+use Rattle.sv_sound.proofs.Changes.{known, plain_at, related_with, ready_sound, change_sound}
+use Rattle.sv_sound.proofs.Running.{running_known, runs_calm, state_sound}
+use Rattle.sv_sound.proofs.EffectSound.{all_sound}
 use Rattle.sv_sound.proofs.MicroPlain.{micro_plain}
 use Rattle.sv_sound.proofs.Opening.{opening_sound}
 
@@ -92,6 +95,8 @@ module _ (d : Parts) (b : IsBuilt d) where
     plain = k.plain;
     each_event = k.each_event;
     states = k.states;
+    related = k.related;
+    made = k.made;
     weights = λ w. let h = k.weights w in omega (arith, h);
   }
 
@@ -136,6 +141,8 @@ module _ (d : Parts) (c : Config) (k : IsSound d c) where
     plain = h;
     each_event = k.each_event;
     states = k.states;
+    related = k.related;
+    made = k.made;
     weights = λ w. let h = k.weights w in let n = l w in omega (arith, h, n);
   }
 
@@ -152,6 +159,8 @@ module _ (d : Parts) (c : Config) (k : IsSound d c) where
         plain = came.plain;
         each_event = all_filter IsPlainEvent is_not_due c.future k.each_event;
         states = k.states;
+        related = k.related;
+        made = k.made;
         weights = λ w.
             let h = k.weights w in
             let a = came.weight w in
@@ -182,7 +191,7 @@ module _ (d : Parts) (c : Config) (k : IsSound d c) where
           let t = taken_weight (one p) place p e in
           let n = parked_done (one p) c.processes p q (record q { latest = Running }) is z refl in
           let o = one_self p in
-          let m = once p 0 d.processes in
+          let m = once p 0 c.processes in
           absurd (omega (arith, h, t, n, o, m))
 
   pub job_sound : (b : IsBuilt d) (j : Job) (js : List Job) → (front c).jobs ≡ j ∷ js → IsSound d (job_short d b js c)
@@ -206,6 +215,8 @@ module _ (d : Parts) (c : Config) (k : IsSound d c) where
     plain = k.plain;
     each_event = k.each_event;
     states = k.states;
+    related = k.related;
+    made = k.made;
     weights = k.weights;
   }
 
@@ -230,7 +241,7 @@ module _ (d : Parts) (c : Config) (k : IsSound d c) (place : ℕ) (p : ProcessId
   -- the states, as far as before a starter was to come
   pub states_then : AreStates (is_pending d.processes c.processes) d.processes (slice_set c.processes p.0 v)
   states_then =
-      set_free (is_pending d.processes c.processes) d.processes c.processes p.0 q k.states is (not_parked q.latest calm) v refl refl refl (found d c k p q is).state.rest tt
+      set_free (is_pending d.processes c.processes) d.processes c.processes p.0 q k.states is (λ x. not_parked q.latest calm) v refl refl refl (plain_at d c k p q is).rest tt refl
 
   states_now : AreStates (is_pending d.processes (slice_set c.processes p.0 v)) d.processes (slice_set c.processes p.0 v)
   states_now =
@@ -244,11 +255,14 @@ module _ (d : Parts) (c : Config) (k : IsSound d c) (place : ℕ) (p : ProcessId
     plain = plain_with (acting c) (record (front c) { ready = remove (front c).ready place }) c.regions (same_jobs (front c) _ refl refl refl (plain_front d c k)) k.plain;
     each_event = k.each_event;
     states = states_now;
+    related = related_with d c k p q is v refl refl (λ e. let z : false ≡ true = e in absurd (cc)) refl;
+    made = made_set c.processes p.0 v c.activations k.made;
     weights = λ w.
         let h = k.weights w in
         let t = taken_weight d c k w place p e in
         let s = parked_still w c.processes p q v is (sym calm) in
-        omega (arith, h, t, s);
+        let a = all_still w c.processes p.0 v in
+        omega (arith, h, t, s, a);
   }
 
 -- ---- the `always_comb` start
@@ -256,24 +270,7 @@ module _ (d : Parts) (c : Config) (k : IsSound d c) (place : ℕ) (p : ProcessId
 module _ (d : Parts) where
   start_sound : (c : Config) → IsSound d c → is_pending d.processes c.processes ≡ false → (p : ProcessId) (q : ProcessState) → process_at c p ≡ Some q → is_parked q.latest ≡ true
       → IsSound d (made_ready p c)
-  start_sound c k none p q is parked =
-      let v : ProcessState = record q { latest = Ready } in
-      let all : AreStates false d.processes c.processes = subst (λ x. AreStates x d.processes c.processes) none k.states in
-      let g : Option ProcessState → Config = λ o. record c { processes = set_at o (λ s. record s { latest = Ready }) p c.processes; regions = ready_in (front_of (side_in o)) p c.regions } in
-      subst (IsSound d) (sym (ap g is)) (record {
-        no_heap = k.no_heap;
-        no_clocks = k.no_clocks;
-        no_monitor = k.no_monitor;
-        plain = plain_ready (front_of q.side) p c.regions k.plain;
-        each_event = k.each_event;
-        states = subst (λ x. AreStates x d.processes (slice_set c.processes p.0 v)) (sym (pending_same d.processes c.processes p.0 q v is refl ∙ none))
-            (set_any d.processes c.processes p.0 q all is v refl refl refl (found d c k p q is).state.rest tt);
-        weights = λ w.
-            let h = k.weights w in
-            let n = ready_weight w (front_of q.side) p c.regions in
-            let e = parked_done w c.processes p q v is parked refl in
-            omega (arith, h, n, e);
-      })
+  start_sound c k none p q is parked = ready_sound d c k p q is parked (λ x. let z : true ≡ false = sym x ∙ none in absurd (cc))
 
   still_none : (c : Config) (p : ProcessId) → is_pending d.processes c.processes ≡ false → is_pending d.processes (made_ready p c).processes ≡ false
   still_none c p h = by_state (process_at c p) refl
@@ -318,7 +315,12 @@ module _ (d : Parts) where
             ap (λ m. state_test (λ q. first_test starts (slice_get d.processes m) && not q.was_taken) (slice_get c.processes m)) z
             ∙ ap (λ o. state_test (λ q. first_test starts (slice_get d.processes i) && not q.was_taken) o) b
             ∙ ap (λ o. first_test starts o && not q.was_taken) a;
+        beyond = λ i a. none_starts (record { 0 = 0 + i }) (let z : 0 + i ≡ i = omega arith in ap (slice_get d.processes) z ∙ a) (process_at c (record { 0 = 0 + i }));
       })
+    where
+      none_starts : (p : ProcessId) → first_process d p ≡ None → (o : Option ProcessState) → state_test (λ q. first_test starts (first_process d p) && not q.was_taken) o ≡ false
+      none_starts p a None = refl
+      none_starts p a (Some q) = ap (λ o. first_test starts o && not q.was_taken) a
 
   and_left : (a b : Bool) → (a && b) ≡ true → a ≡ true
   and_left true b h = refl
@@ -331,7 +333,7 @@ module _ (d : Parts) where
   -- a starter that was not taken is to come
   pub starter_pends : (x : Bool) (fs : List Process) (qs : List ProcessState) (i : ℕ) (f : Process) (q : ProcessState) → AreStates x fs qs → slice_get fs i ≡ Some f → slice_get qs i ≡ Some q
       → (starts f && not q.was_taken) ≡ true → is_pending fs qs ≡ true
-  starter_pends x [] [] i f q h a b t = absurd (cc)
+  starter_pends x [] qs i f q h a b t = absurd (cc)
   starter_pends x (g ∷ fs) (r ∷ qs) zero f q h a b t =
       let e : (starts g && not r.was_taken) ≡ true = ap (λ o. first_test starts o && not r.was_taken) a ∙ ap (λ o. starts f && not (taken_in o)) b ∙ t in
       ap (λ y. y || is_pending fs qs) e
@@ -344,7 +346,6 @@ module _ (d : Parts) where
       over : (y : Bool) → is_pending fs qs ≡ true → (y || is_pending fs qs) ≡ true
       over true e = refl
       over false e = e
-  starter_pends x [] (r ∷ qs) i f q h a b t = absurd h
   starter_pends x (g ∷ fs) [] i f q h a b t = absurd h
 
   -- who is held waits for its start
@@ -355,10 +356,11 @@ module _ (d : Parts) where
     where
       by_state : (o : Option ProcessState) → process_at c p ≡ o → state_test (λ q. first_test (λ f. is_always_comb f.kind) (first_process d p) && not q.was_taken) o ≡ true → state_test (λ q. is_parked q.latest) o ≡ true
       by_state None e t = absurd (cc)
-      by_state (Some q) e t =
-          let k = state_found true d.processes c.processes p.0 q h e in
-          let comb : is_always_comb k.process.kind ≡ true = sym (ap (first_test (λ f. is_always_comb f.kind)) k.at) ∙ and_left _ (not q.was_taken) t in
-          ap is_parked (k.state.held refl comb)
+      by_state (Some q) e t = by_first (first_process d p) refl (and_left _ (not q.was_taken) t)
+        where
+          by_first : (o : Option Process) → first_process d p ≡ o → first_test (λ f. is_always_comb f.kind) o ≡ true → is_parked q.latest ≡ true
+          by_first None a g = absurd (cc)
+          by_first (Some f) a g = ap is_parked ((state_found true d.processes c.processes p.0 f q h a e).held refl g)
 
 -- ---- each kind of step
 
@@ -377,22 +379,27 @@ module _ (d : Parts) (b : IsBuilt d) (c : Config) (k : IsSound d c) where
 
       by_last : (y : Bool) → is_last d place p c ≡ y → IsSound d (combs_started d y (taken_short place p c))
       by_last false l = sound
-      by_last true l =
-          let f = found d c k p at.0 at.1 in
-          let first : is_starter d (taken_off place c) p ≡ true = and_left d _ (length (waiting_starters d (taken_short place p c)) == 0) l in
-          let none : (length (waiting_starters d (taken_short place p c)) == 0) ≡ true = and_right d (is_starter d (taken_off place c) p) _ l in
-          let starter : (starts f.process && not at.0.was_taken) ≡ true = starter_of f.process at.0 f.at at.1 first in
-          let pends : is_pending d.processes c.processes ≡ true = starter_pends d (is_pending d.processes c.processes) d.processes c.processes p.0 f.process at.0 k.states f.at at.1 starter in
-          let then' : AreStates true d.processes (taken_short place p c).processes =
-          subst (λ (x : Config). AreStates true d.processes x.processes) (sym (now_is d c k place p e at.0 at.1 n))
-          (subst (λ y. AreStates y d.processes (slice_set c.processes p.0 (record at.0 { latest = Running; was_taken = true }))) pends (states_then d c k place p e at.0 at.1 n)) in
-          let zero_left : length (waiting_starters d (taken_short place p c)) ≡ 0 = grind (arith, nat_tests) in
-          let none_now : is_pending d.processes (taken_short place p c).processes ≡ false =
-          pending_none d.processes (taken_short place p c).processes (sym (waiting_counted d true (taken_short place p c) then') ∙ zero_left) in
-          all_start d _ 0 (taken_short place p c).processes (taken_short place p c) sound none_now (λ q m t. held_parked d (taken_short place p c) then' q t)
+      by_last true l = by_first (first_process d p) refl (and_left d _ (length (waiting_starters d (taken_short place p c)) == 0) l)
         where
           starter_of : (f : Process) (q : ProcessState) → first_process d p ≡ Some f → process_at c p ≡ Some q → is_starter d (taken_off place c) p ≡ true → (starts f && not q.was_taken) ≡ true
           starter_of f q x y h = grind (arith, common_steps)
+
+          no_starter : first_process d p ≡ None → is_starter d (taken_off place c) p ≡ true → ⊥
+          no_starter x h = absurd (let z : true ≡ false = sym (and_left d _ _ h) ∙ ap (first_test starts) x in cc)
+
+          by_first : (o : Option Process) → first_process d p ≡ o → is_starter d (taken_off place c) p ≡ true → IsSound d (combs_started d true (taken_short place p c))
+          by_first None x first = absurd (no_starter x first)
+          by_first (Some f) x first =
+              let none : (length (waiting_starters d (taken_short place p c)) == 0) ≡ true = and_right d (is_starter d (taken_off place c) p) _ l in
+              let starter : (starts f && not at.0.was_taken) ≡ true = starter_of f at.0 x at.1 first in
+              let pends : is_pending d.processes c.processes ≡ true = starter_pends d (is_pending d.processes c.processes) d.processes c.processes p.0 f at.0 k.states x at.1 starter in
+              let then' : AreStates true d.processes (taken_short place p c).processes =
+              subst (λ (x : Config). AreStates true d.processes x.processes) (sym (now_is d c k place p e at.0 at.1 n))
+              (subst (λ y. AreStates y d.processes (slice_set c.processes p.0 (record at.0 { latest = Running; was_taken = true }))) pends (states_then d c k place p e at.0 at.1 n)) in
+              let zero_left : length (waiting_starters d (taken_short place p c)) ≡ 0 = grind (arith, nat_tests) in
+              let none_now : is_pending d.processes (taken_short place p c).processes ≡ false =
+              pending_none d.processes (taken_short place p c).processes (sym (waiting_counted d true (taken_short place p c) then') ∙ zero_left) in
+              all_start d _ 0 (taken_short place p c).processes (taken_short place p c) sound none_now (λ q m t. held_parked d (taken_short place p c) then' q t)
 
   first_job : 0 < length (front c).jobs → (j : Job) × (js : List Job) × ((front c).jobs ≡ j ∷ js)
   first_job h = by_list (front c).jobs refl h
@@ -406,8 +413,8 @@ module _ (d : Parts) (b : IsBuilt d) (c : Config) (k : IsSound d c) where
       let at = there c.processes p.0 (running_known d c k p r) in
       let q = at.0 in
       let v : ProcessState = record q { handed = None } in
-      let plain = (found d c k p q at.1).state.rest in
-      let here : IsSound d (with_state p v c) = state_sound d c k p r q at.1 v refl refl refl refl plain (runs_calm d c k p r q at.1) in
+      let plain = (plain_at d c k p q at.1).rest in
+      let here : IsSound d (with_state p v c) = state_sound d c k p r q at.1 v refl refl refl refl plain (runs_calm d c k p r q at.1) (λ e. e) in
       subst (λ o. IsSound d (ran_state d p o c)) (sym at.1)
       (subst (λ o. IsSound d (Rattle.sv_flat.specs.Effects.all_occurred d (unwrap_or (Rattle.sv_flat.specs.Micro.place_of_step q.rest) no_place) p (Rattle.sv_flat.specs.Micro.micro d (Rattle.sv_flat.specs.Config.seen d c) p q) (record c { processes = set_at o (λ r. record r { handed = None }) p c.processes }))) (sym at.1)
       (all_sound d b _ p _ (micro_plain d b (Rattle.sv_flat.specs.Config.seen d c) p q plain) (with_state p v c) here))

@@ -1,5 +1,5 @@
 -- A design that is built has room for its picks, so that each legal run of it is directed.
-use Rattle.std.proofs.Common.{ℕ, suc, ◌≡◌, ◌+◌, ◌<◌, ◌≤◌, ◌^◌, List, [], ◌∷◌, refl, ap, ◌∙◌, arith, length}
+use Rattle.std.proofs.Common.{ℕ, suc, ◌≡◌, ◌+◌, ◌≤◌, ◌^◌, List, [], ◌∷◌, refl, ap, ◌∙◌, arith, length}
 use Rattle.std.specs.Prelude.{sum_by, ◌==◌, if◌then◌else◌}
 use Rattle.std.proofs.lemmas.Bool.Decides.{nat_tests}
 use Rattle.std.proofs.lemmas.List.Sums.{sum_by-cons}
@@ -29,8 +29,8 @@ pub count_numbers : {A : Type 0} (n : ℕ) (xs : List A) → length (numbered_fr
 count_numbers n [] = refl
 count_numbers n (x ∷ xs) = ap suc (count_numbers (n + 1) xs)
 
-pub all_count : (d : Parts) → weight_of_all ones d ≡ length d.processes
-all_count d = count_processes (numbered_from 0 d.processes) ∙ count_numbers 0 d.processes
+pub all_count : {A : Type 0} (xs : List A) → weight_of_all ones xs ≡ length xs
+all_count xs = count_processes (numbered_from 0 xs) ∙ count_numbers 0 xs
 
 ready_count : (s : Side) (r : Regions) → length (set_of s r).ready ≤ sum_by ones (standing r)
 ready_count Active r = let e = standing_weight ones r in let c = count_processes r.active.ready in omega (arith, e, c)
@@ -45,9 +45,9 @@ at_most_one s = at_most (length s.jobs)
 pub has_room : (d : Parts) → IsBuilt d → HasRoom d
 has_room d b c h =
     let k = reached_sound d b c h in
-    let w : weight ones c ≤ weight_of_all ones d = k.weights ones in
-    let a = all_count d in
-    let f : length d.processes < 2 ^ 18 = b.few_processes in
+    let w : weight ones c ≤ weight_of_all ones c.processes = k.weights ones in
+    let a = all_count c.processes in
+    let f : length c.processes ≤ 2 ^ 18 = k.related.few in
     let n = ready_count (acting c) c.regions in
     let j = at_most_one (front c) in
     omega (arith, w, a, f, n, j)

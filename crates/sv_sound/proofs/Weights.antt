@@ -20,7 +20,7 @@ use Rattle.sv_value.specs.Regions.{Regions, Set, set_of, with_set, standing, rea
 use Rattle.sv_flat.specs.Config.{numbered_from}
 use Rattle.sv_flat.specs.Effects.Ends.{not_due_to}
 use Rattle.sv_flat.specs.Process.{ProcessState}
-use Rattle.sv_sound.specs.Sound.{weight_of_event, weight_of_due, is_parked, parked_weight}
+use Rattle.sv_sound.specs.Sound.{weight_of_event, weight_of_due, is_parked, parked_weight, weight_of_all}
 
 module _ {X : Type 0} (P : X → Type 0) where
   pub all_append : (xs ys : List X) → AllByRecursion P xs → AllByRecursion P ys → AllByRecursion P (xs ++ ys)
@@ -238,6 +238,45 @@ parked_done w qs p q v e h g =
     let b = ap (λ (b : Bool). if b then w p else 0) g in
     omega (arith, k, a, b)
 
+-- one that does not wait now
+pub parked_less : (w : ProcessId → ℕ) (qs : List ProcessState) (p : ProcessId) (q v : ProcessState) → slice_get qs p.0 ≡ Some q → is_parked v.latest ≡ false
+    → parked_weight w 0 (slice_set qs p.0 v) ≤ parked_weight w 0 qs
+parked_less w qs p q v e g =
+    let k = parked_swap w 0 qs p.0 p q v e (omega arith) in
+    let b = ap (λ (b : Bool). if b then w p else 0) g in
+    omega (arith, k, b)
+
+-- one more that does not wait
+pub parked_more : (w : ProcessId → ℕ) (n : ℕ) (qs : List ProcessState) (v : ProcessState) → is_parked v.latest ≡ false → parked_weight w n (qs ++ v ∷ []) ≡ parked_weight w n qs
+parked_more w n [] v g = let b = ap (λ (b : Bool). if b then w (record { 0 = n }) else 0) g in omega (arith, b)
+parked_more w n (q ∷ qs) v g = let k = parked_more w (n + 1) qs v g in omega (arith, k)
+
+-- ---- the weight of all
+
+numbered_set : {A : Type 0} (n : ℕ) (xs : List A) (i : ℕ) (v : A) → numbered_from n (slice_set xs i v) ≡ numbered_from n xs
+numbered_set n [] i v = refl
+numbered_set n (x ∷ xs) zero v = refl
+numbered_set n (x ∷ xs) (suc i) v = ap (λ (ps : List ProcessId). record { 0 = n } ∷ ps) (numbered_set (n + 1) xs i v)
+
+pub all_still : {A : Type 0} (w : ProcessId → ℕ) (xs : List A) (i : ℕ) (v : A) → weight_of_all w (slice_set xs i v) ≡ weight_of_all w xs
+all_still w xs i v = ap (sum_by w) (numbered_set 0 xs i v)
+
+all_from : {A : Type 0} (w : ProcessId → ℕ) (n : ℕ) (xs : List A) (v : A) → sum_by w (numbered_from n (xs ++ v ∷ [])) ≡ sum_by w (numbered_from n xs) + w (record { 0 = n + length xs })
+all_from w n [] v =
+    let a = sum_by-cons w (record { 0 = n }) [] in
+    let z : n ≡ n + 0 = omega arith in
+    let b : w (record { 0 = n }) ≡ w (record { 0 = n + 0 }) = ap (λ m. w (record { 0 = m })) z in
+    omega (arith, a, b)
+all_from w n (x ∷ xs) v =
+    let a = sum_by-cons w (record { 0 = n }) (numbered_from (n + 1) (xs ++ v ∷ [])) in
+    let b = sum_by-cons w (record { 0 = n }) (numbered_from (n + 1) xs) in
+    let z : n + 1 + length xs ≡ n + suc (length xs) = omega arith in
+    let e : w (record { 0 = n + 1 + length xs }) ≡ w (record { 0 = n + suc (length xs) }) = ap (λ m. w (record { 0 = m })) z in
+    omega (arith, a, b, e, all_from w (n + 1) xs v)
+
+pub all_more : {A : Type 0} (w : ProcessId → ℕ) (xs : List A) (v : A) → weight_of_all w (xs ++ v ∷ []) ≡ weight_of_all w xs + w (record { 0 = length xs })
+all_more w xs v = all_from w 0 xs v ∙ (let z : 0 + length xs ≡ length xs = omega arith in ap (λ m. weight_of_all w xs + w (record { 0 = m })) z)
+
 -- none is parked
 pub none_parked : (w : ProcessId → ℕ) (n : ℕ) (qs : List ProcessState) → AllByRecursion (λ q. is_parked q.latest ≡ false) qs → parked_weight w n qs ≡ 0
 none_parked w n [] h = refl
@@ -245,6 +284,17 @@ none_parked w n (q ∷ qs) h =
     let a = ap (λ (b : Bool). if b then w (record { 0 = n }) else 0) h.0 in
     let k = none_parked w (n + 1) qs h.1 in
     omega (arith, a, k)
+
+-- without one of them
+pub without_weight : (w : ProcessId → ℕ) (p : ProcessId) (r : Regions) → sum_by w (standing (regions_without p r)) ≤ sum_by w (standing r)
+without_weight w p r =
+    let n = standing_weight w (regions_without p r) in
+    let o = standing_weight w r in
+    let a = filtered_weight w (is_not p) r.active.ready in
+    let b = filtered_weight w (is_not p) r.active.idle in
+    let c = filtered_weight w (is_not p) r.reactive.ready in
+    let d = filtered_weight w (is_not p) r.reactive.idle in
+    omega (arith, n, o, a, b, c, d)
 
 -- of those of one set
 abbrev pub set_weight : (ProcessId → ℕ) → Set → ℕ

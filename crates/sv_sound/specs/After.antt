@@ -1,6 +1,7 @@
 -- What an effect leaves in a run of a built design, in short (IEEE 1800-2017, 4.4, 9.4, 10.4 and 21.2).
 use Rattle.std.specs.Prelude.{ℕ, ◌+◌, ◌^◌, Bool, true, List, [], ◌∷◌, ◌++◌, ◌&&◌, Option, None, Some, length, map, remove, slice_set, nat_lt, if◌then◌else◌, ◌==◌}
 use Rattle.sv_value.specs.declared.number.ProcessId.{ProcessId}
+use Rattle.sv_value.specs.declared.number.RoutineId.{RoutineId}
 use Rattle.sv_value.specs.declared.place.Place.{Place}
 use Rattle.sv_value.specs.declared.place.FaultKind.TheVariants as fault
 use Rattle.sv_value.specs.declared.val.Val.{Val}
@@ -14,10 +15,11 @@ use Rattle.sv_flat.specs.declared.process.Watch.{Watch}
 use Rattle.sv_flat.specs.declared.design.Parts.{Parts}
 use Rattle.sv_flat.specs.State.{Store, Name, Activation, first_value}
 use Rattle.sv_flat.specs.Process
-use Rattle.sv_flat.specs.Process.{ProcessState, Running, Waiting, Moment, Turn_in_slot, Watches, Todo, Spot, Cell, body_in}
+use Rattle.sv_flat.specs.Process.{ProcessState, Running, Waiting, Moment, Turn_in_slot, Watches, Children, Todo, Spot, Cell, body_in}
 use Rattle.sv_flat.specs.Config.{Config, Strobe, with_process, all_made_ready, met_fault}
 use Rattle.sv_flat.specs.Steps.{acting, front, is_starter, waiting_starters}
 use Rattle.sv_flat.specs.Woken.{Changed, woken}
+use Rattle.sv_flat.specs.Effects.Scheduling.{child_of}
 use Rattle.sv_flat.specs.Effects.Writes.{changed_at, stored_over}
 
 -- ---- a process in another state
@@ -49,6 +51,18 @@ turned p q c =
 -- the process waits for one of these changes, seen from a scope
 abbrev pub watching : ProcessId → ProcessState → List Watch → Option Name → Config → Config
 watching p q ws scope c = record (with_state p (record q { latest = Waiting (Watches ws scope) }) c) { running = None }
+
+-- the process waits for children: for all of these, or for one
+abbrev pub waiting_for : ProcessId → ProcessState → Bool → List ProcessId → Config → Config
+waiting_for p q all rs c = record (with_state p (record q { latest = Waiting (Children all rs) }) c) { running = None }
+
+-- a process more, which is ready: a child of one that is in this state
+abbrev pub with_child : Parts → ProcessId → ProcessState → RoutineId → Option Name → Config → Config
+with_child d p q r scope c =
+    record c {
+      processes = c.processes ++ child_of d p r scope q ∷ [];
+      regions = ready_in (front_of q.side) (record { 0 = length c.processes }) c.regions;
+    }
 
 -- the process is over
 abbrev pub over : ProcessId → ProcessState → Config → Config

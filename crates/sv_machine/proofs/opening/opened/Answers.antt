@@ -11,8 +11,8 @@ use Rattle.sv_process.specs.declared.frames.Frame.TheVariants.{Rest}
 use Rattle.sv_process.specs.Frames.{todos_of}
 use Rattle.sv_machine.specs.Machine.{strobe_at}
 use Rattle.sv_machine.specs.Waits.{awaited_at}
-use Rattle.sv_machine.specs.Opening.{first_regions, starter_count}
-use Rattle.sv_machine.proofs.OpeningProcesses.{opening_rest, opening_made, opening_taken, opening_waits, opening_starters}
+use Rattle.sv_machine.specs.Opening.{first_member, first_regions, starter_count}
+use Rattle.sv_machine.proofs.OpeningProcesses.{opening_family, opening_rest, opening_made, opening_taken, opening_waits, opening_starters}
 use Rattle.sv_machine.proofs.OpeningRegions.{opening_regions}
 use Rattle.sv_machine.proofs.opening.opened.Goals as goal
 
@@ -25,6 +25,7 @@ returns c =
     ap (map (todos_of d)) (c.in_ok-at_beginnings.ensures ∙ ap (λ (fs : List Process). map (λ f. Rest (record { routine = f.body; place = 0 }) None ∷ []) fs) at)
     ∙ opening_rest d d.processes in
     let waiting = ap (map (awaited_at d)) c.in_ok-new-2.ensures.waits ∙ opening_waits d d.processes in
+    let family = c.in_ok-first_tree.ensures ∙ ap (λ (fs : List Process). map first_member fs) at ∙ opening_family d d.processes in
     let taken = c.in_ok-never_taken.ensures ∙ ap (λ (fs : List Process). map (λ f. false) fs) at ∙ opening_taken d d.processes in
     let starters = c.starter_count.ensures ∙ ap starter_count at ∙ opening_starters d d.processes in
     let strobes = ap (map (strobe_at d)) c.new-3.ensures.items in
@@ -49,6 +50,7 @@ returns c =
           store = store i;
           activations = (ap (λ (a : Made). a.activations) activations ∙ sym (ap (λ (w : World). w.activations) (opening_only d c.requires.built).is)) i;
           made = (ap (λ (a : Made). a.made) activations ∙ made) i;
+          family = family i;
           remaining = remaining i;
           waiting = waiting i;
           taken = taken i;
@@ -60,6 +62,7 @@ returns c =
           used_reactive = 0;
         };
         covers = c.in_ok-new-2.ensures.covers;
+        alive = tt;
         last = search rules;
       };
     }

@@ -1,4 +1,4 @@
-use Rattle.std.proofs.Common.{rules, arith, ◌≡◌, ◌∙◌, List, refl, ap, subst, sym}
+use Rattle.std.proofs.Common.{rules, ◌≡◌, ◌∙◌, List, refl, ap, subst, sym}
 use Rattle.std.specs.Prelude.{reverse, get_or}
 use Rattle.std.specs.List.{AllByRecursion}
 use Rattle.std.specs.Vec.{with_item}
@@ -11,18 +11,15 @@ use Rattle.sv_flat.specs.Process.{Effect}
 use Rattle.sv_flat.specs.Effects.{all_occurred}
 use Rattle.sv_machine.specs.declared.machine.Machine.{Machine}
 use Rattle.sv_machine.specs.Machine.{Does}
-use Rattle.sv_machine.proofs.OccurLaws.{runs_known, made_count}
-use Rattle.sv_machine.proofs.StepLaws.{TookStep, took_step, has_frames, reverse_twice, step_at, step_plain, step_makes}
+use Rattle.sv_machine.proofs.OccurLaws.{runs_framed, runs_made}
+use Rattle.sv_machine.proofs.StepLaws.{TookStep, took_step, reverse_twice, step_at, step_plain, step_makes}
 use Rattle.sv_machine.proofs.statements.run_statement.Goals as goal
 
 pub next-next-requires : goal.next-next-requires
-next-next-requires c =
-    let k = runs_known c.args.design.now c.args.machine.now c.requires.at c.args.process c.requires.running in
-    let e = made_count c.args.design.now c.args.machine.now c.requires.at in
-    omega (arith, k, e)
+next-next-requires c = runs_made c.args.design.now c.args.machine.now c.requires.at c.args.process c.requires.running
 
 pub index_mut-requires : goal.index_mut-requires
-index_mut-requires c = let k = has_frames c.args.design.now c.args.machine.now c.requires.at c.args.process c.requires.running in search rules
+index_mut-requires c = let k = runs_framed c.args.design.now c.args.machine.now c.requires.at c.args.process c.requires.running in search rules
 
 pub occur_all-done-requires-clause-at : goal.occur_all-done-requires-clause-at
 occur_all-done-requires-clause-at c =
@@ -33,7 +30,7 @@ occur_all-done-requires-clause-at c =
     let none = c.index_mut.result.now in
     let is : none ≡ get_or m.processes.items p.0 none = search rules in
     let h : TookStep d p m n c.next_step.new.stepped (get_or m.processes.items p.0 none) c.next_step.new.frames c.next_step.new.out.items =
-    took_step d p m n c.next_step.new.stepped c.next_step.new.frames c.next_step.new.out.items none c.next-next.result (has_frames d m c.requires.at p c.requires.running) refl (search rules) is
+    took_step d p m n c.next_step.new.stepped c.next_step.new.frames c.next_step.new.out.items none c.next-next.result (runs_framed d m c.requires.at p c.requires.running) refl (search rules) is
     c.next-next.ensures c.in_ok-next_step.ensures.does c.in_ok-next_step.ensures.at c.in_ok-next_step.ensures.held in
     step_at d c.requires.built p m n c.requires.running c.next_step.new.stepped (get_or m.processes.items p.0 none) c.next_step.new.frames c.next_step.new.out.items h c.requires.at
 
@@ -46,7 +43,7 @@ occur_all-done-requires-clause-plain c =
     let none = c.index_mut.result.now in
     let is : none ≡ get_or m.processes.items p.0 none = search rules in
     let h : TookStep d p m n c.next_step.new.stepped (get_or m.processes.items p.0 none) c.next_step.new.frames c.next_step.new.out.items =
-    took_step d p m n c.next_step.new.stepped c.next_step.new.frames c.next_step.new.out.items none c.next-next.result (has_frames d m c.requires.at p c.requires.running) refl (search rules) is
+    took_step d p m n c.next_step.new.stepped c.next_step.new.frames c.next_step.new.out.items none c.next-next.result (runs_framed d m c.requires.at p c.requires.running) refl (search rules) is
     c.next-next.ensures c.in_ok-next_step.ensures.does c.in_ok-next_step.ensures.at c.in_ok-next_step.ensures.held in
     let e : effects_in d (reverse c.enter_first.new.effects.items) ≡ effects_done d c.next_step.new.stepped.went c.next_step.new.out.items =
     c.in_ok-enter_first.ensures d ∙ ap (effects_done d c.next_step.new.stepped.went) (ap (reverse {A = Own_effect}) c.reverse.ensures.items ∙ reverse_twice c.next_step.new.out.items) in
@@ -62,7 +59,7 @@ returns-clause-ok c =
     let none = c.index_mut.result.now in
     let is : none ≡ get_or m.processes.items p.0 none = search rules in
     let h : TookStep d p m n c.next_step.new.stepped (get_or m.processes.items p.0 none) c.next_step.new.frames c.next_step.new.out.items =
-    took_step d p m n c.next_step.new.stepped c.next_step.new.frames c.next_step.new.out.items none c.next-next.result (has_frames d m c.requires.at p c.requires.running) refl (search rules) is
+    took_step d p m n c.next_step.new.stepped c.next_step.new.frames c.next_step.new.out.items none c.next-next.result (runs_framed d m c.requires.at p c.requires.running) refl (search rules) is
     c.next-next.ensures c.in_ok-next_step.ensures.does c.in_ok-next_step.ensures.at c.in_ok-next_step.ensures.held in
     let l = c.occur_all-done.new.machine in
     let at = c.next_step.new.stepped.at in
@@ -82,7 +79,7 @@ returns-clause-lines c =
     let none = c.index_mut.result.now in
     let is : none ≡ get_or m.processes.items p.0 none = search rules in
     let h : TookStep d p m n c.next_step.new.stepped (get_or m.processes.items p.0 none) c.next_step.new.frames c.next_step.new.out.items =
-    took_step d p m n c.next_step.new.stepped c.next_step.new.frames c.next_step.new.out.items none c.next-next.result (has_frames d m c.requires.at p c.requires.running) refl (search rules) is
+    took_step d p m n c.next_step.new.stepped c.next_step.new.frames c.next_step.new.out.items none c.next-next.result (runs_framed d m c.requires.at p c.requires.running) refl (search rules) is
     c.next-next.ensures c.in_ok-next_step.ensures.does c.in_ok-next_step.ensures.at c.in_ok-next_step.ensures.held in
     let l = c.occur_all-done.new.machine in
     let at = c.next_step.new.stepped.at in

@@ -3,4 +3,4 @@ use Rattle.sv_machine.proofs.wakes.make_ready.Given as goal
 
 -- so far, and what is left
 abbrev pub invariant-loop-process : goal.invariant-loop-process
-invariant-loop-process l = SoFar l.fn.design l.processes l.initial.regions l.process-index l.regions
+invariant-loop-process l = SoFar l.tree l.processes l.initial.regions l.process-index l.regions

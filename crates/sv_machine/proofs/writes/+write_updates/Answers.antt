@@ -1,7 +1,6 @@
 use Rattle.std.proofs.Common.{rules, ◌≡◌, ◌∙◌, ◌∷◌, ◌++◌, List, [], ap, subst, sym}
 use Rattle.std.specs.Prelude.{OnOk, reverse}
 use Rattle.sv_value.specs.declared.schedule.Update.{Update}
-use Rattle.sv_value.specs.declared.target.Target.TheVariants as target
 use Rattle.sv_flat.specs.Steps.{updates_written}
 use Rattle.sv_sense.proofs.SenseLaws.{ok_given}
 use Rattle.sv_machine.specs.Machine.{IsAt, Makes}

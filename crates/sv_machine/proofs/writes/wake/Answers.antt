@@ -17,9 +17,8 @@ make_ready-done-requires-clause-known c =
     let u = c.unit_ticks-unit.result in
     let t : Option Wait → Bool = fires_at d (view_before c.args.overwritten.now c.args.store.now c.args.activations.now.activations c.args.time u None) (view_in c.args.store.now c.args.activations.now.activations c.args.time u None) in
     let e : c.deref.result.now ≡ woken_from t 0 c.args.sense.now.waits = c.deref.ensures.value ∙ c.in_ok-fire.ensures.woken in
-    let n = c.requires.covers.waits_count in
-    subst (λ (ps : List ProcessId). AllByRecursion (IsKnown (length d.processes)) ps) (sym e)
-    (woken_known t 0 (length d.processes) c.args.sense.now.waits (omega (arith, n)))
+    let n = c.requires.count in
+    subst (λ (ps : List ProcessId). AllByRecursion (IsKnown (length c.args.tree.now)) ps) (sym e) (woken_known t 0 (length c.args.tree.now) c.args.sense.now.waits (omega (arith, n)))
 
 pub make_ready-done-requires-clause-weights : goal.make_ready-done-requires-clause-weights
 make_ready-done-requires-clause-weights c = λ w.
@@ -41,6 +40,6 @@ returns c =
     let e : c.deref.result.now ≡ woken_from t 0 c.args.sense.now.waits = c.deref.ensures.value ∙ c.in_ok-fire.ensures.woken in
     ok_given c.make_ready-done.result _ _ (λ h. record {
       waits = c.in_ok-fire.ensures.left ∙ ap (λ u. waits_after (v u) c.args.sense.now.waits) is;
-      regions = h ∙ ap (λ (ps : List ProcessId). all_ready d ps c.args.regions.now) (e ∙ ap (λ u. woken_from (v u) 0 c.args.sense.now.waits) is);
+      regions = h ∙ ap (λ (ps : List ProcessId). all_ready c.args.tree.now ps c.args.regions.now) (e ∙ ap (λ u. woken_from (v u) 0 c.args.sense.now.waits) is);
       covers = c.in_ok-fire.ensures.covers;
     }) c.make_ready-done.ensures

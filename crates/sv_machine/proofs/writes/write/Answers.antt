@@ -6,11 +6,17 @@ use Rattle.sv_store.specs.declared.change.Overwritten.{Overwritten}
 use Rattle.sv_store.specs.Overwrites.{object_before}
 use Rattle.sv_sense.proofs.SenseLaws.{ok_given}
 use Rattle.sv_machine.specs.declared.machine.Machine.{Machine}
-use Rattle.sv_machine.proofs.WriteLaws.{wake_room, wrote_some, wrote_none}
+use Rattle.sv_machine.proofs.WriteLaws.{wake_count, wake_few, wake_room, wrote_some, wrote_none}
 use Rattle.sv_machine.proofs.writes.write.Goals as goal
 
 pub wake-requires-clause-weights : goal.wake-requires-clause-weights
 wake-requires-clause-weights c = wake_room c.args.design.now c.args.machine.now c.requires.at
+
+pub wake-requires-clause-count : goal.wake-requires-clause-count
+wake-requires-clause-count c = wake_count c.args.design.now c.args.machine.now c.requires.at
+
+pub wake-requires-clause-few : goal.wake-requires-clause-few
+wake-requires-clause-few c = wake_few c.args.design.now c.args.machine.now c.requires.at
 
 pub returns-in-None-clause-ok : goal.returns-in-None-clause-ok
 returns-in-None-clause-ok c =

@@ -1,0 +1,172 @@
+// All processes of a run (IEEE 1800-2017, 9.3.2, 9.6.1 and 9.6.3).
+ghost use Rattle.std.specs.Prelude.{◌≡◌, ◌≢◌, ◌<◌, ◌≤◌, ◌^◌, ◌↔◌, [], Ok, Err, Some, None, true, false, nat_lt, length, slice_get, IfOk, OnOk, OnErr};
+ghost use Rattle.std.specs.List.{list_all};
+ghost use Rattle.sv_fork.specs.declared.tree.StartFault.TheVariants.{Memory};
+ghost use Rattle.sv_fork.specs.Tree.{all_ended_in, all_ready_in, awaiting_in, descendants_in, ended_in, is_awaited, is_living_child, join_in, joined_in, living_children_in, listed, parent_of, ready_in, side_of, started_in, with_root};
+
+use crate::family::{descendants_of, living_children_of};
+use crate::join::Join;
+use crate::member::Member;
+use crate::members::{end_all, end_in, finish_in, go_on_in, wait_in};
+use std::alloc::{AllocFailed, Global};
+use std::marker::Model;
+use sv_value::{NoMemory, ProcessId, Side};
+use thiserror::Error;
+
+/// How many processes there may be.
+const MOST: usize = 1 << 18;
+
+/// Why a process has no child more.
+#[derive(Clone, Copy, Debug, PartialEq, Eq, Error)]
+pub enum StartFault {
+    #[error("too many processes")]
+    Full,
+    #[error("out of memory")]
+    Memory,
+}
+
+impl<T: Drop> From<AllocFailed<T>> for StartFault {
+    ghost from_gives = { λ _ e. e ≡ Memory };
+
+    fn from(_: AllocFailed<T>) -> Self {
+        StartFault::Memory
+    }
+}
+
+/// All processes of a run, by number. It is seen as their list.
+#[derive(Drop)]
+pub struct Tree {
+    members: Vec<Member>,
+}
+
+impl Model for Tree {
+    ghost use Rattle.std.specs.Prelude.{List, length, ◌≤◌, ◌^◌};
+    ghost use Rattle.sv_fork.specs.Tree.{IsTree, Member as Defined};
+
+    ghost Value = { List Defined };
+
+    ghost view = { λ t. t.members.items };
+
+    ghost invariant = { λ t. (length t.members.items ≤ 2 ^ 18) × IsTree t.members.items };
+}
+
+impl Tree {
+    /// No process yet.
+    pub fn new(alloc: Global) -> Self
+        ensures { result ≡ [] }
+    {
+        Tree {
+            members: Vec::new(alloc),
+        }
+    }
+
+    /// How many processes there are.
+    pub fn len(&self) -> usize
+        ensures count { result ≡ length self.now }
+        ensures few { result ≤ 2 ^ 18 }
+    {
+        self.members.len()
+    }
+
+    /// The side of a process.
+    pub fn side(&self, process: ProcessId) -> Side
+        requires { process.0 < length self.now }
+        ensures { result ≡ side_of (slice_get self.now process.0) }
+    {
+        self.members[process.0 as usize].side()
+    }
+
+    /// A process that the design begins with, behind the others.
+    pub fn add_root(&mut self, side: Side) -> Result<(), NoMemory>
+        requires { length self.old < 2 ^ 18 }
+        ensures ok { OnOk result (self.new ≡ with_root side self.old) }
+        ensures err { OnErr result (self.new ≡ self.old) }
+    {
+        self.members.push(Member::new(side, None))?;
+        Ok(())
+    }
+
+    /// A process has a child more, behind all others and on the side of its parent.
+    pub fn start(&mut self, parent: ProcessId) -> Result<ProcessId, StartFault>
+        requires { parent.0 < length self.old }
+        ensures child { IfOk result (λ p. p ≡ record { 0 = length self.old }) }
+        ensures ok { OnOk result (self.new ≡ started_in parent (slice_get self.old parent.0) self.old) }
+        ensures room { OnOk result (nat_lt (length self.old) (2 ^ 18) ≡ true) }
+        ensures full { (result ≡ Err StartFault.Full) ↔ (nat_lt (length self.old) (2 ^ 18) ≡ false) }
+        ensures err { OnErr result (self.new ≡ self.old) }
+    {
+        let count = self.members.len();
+        if count >= MOST {
+            return Err(StartFault::Full);
+        }
+        let child = self.members[parent.0 as usize].child(parent);
+        self.members.push(child)?;
+        Ok(ProcessId(count as u32))
+    }
+
+    /// A process waits until all of these living children are over, or one of them.
+    pub fn join(&mut self, process: ProcessId, all: bool, children: Vec<ProcessId>)
+        requires some { children.items ≢ [] }
+        requires living { list_all (is_living_child self.old process) children.items ≡ true }
+        ensures { self.new ≡ awaiting_in process (record { all = all; children = children.items }) self.old }
+    {
+        wait_in(&mut self.members, process, Join::new(all, children));
+    }
+
+    /// A process goes on: it is not over, and waits for no children.
+    pub fn go_on(&mut self, process: ProcessId)
+        ensures { self.new ≡ ready_in process self.old }
+    {
+        go_on_in(&mut self.members, process);
+    }
+
+    /// A process is over. Its parent is told, and waits no more, where that completes what it waited for.
+    pub fn finish(&mut self, process: ProcessId) -> Option<ProcessId>
+        ensures joined { joined_in (ended_in process self.old) ≡ listed result }
+        ensures new { self.new ≡ all_ready_in (listed result) (ended_in process self.old) }
+    {
+        finish_in(&mut self.members, process)
+    }
+
+    /// A process is over, whose parent waits for no children.
+    pub fn end(&mut self, process: ProcessId)
+        requires { is_awaited self.old process ≡ false }
+        ensures { self.new ≡ ended_in process self.old }
+    {
+        end_in(&mut self.members, process);
+    }
+
+    /// The living children of a process, by number.
+    pub fn living_children(
+        &self,
+        alloc: Global,
+        process: ProcessId,
+    ) -> Result<Vec<ProcessId>, NoMemory>
+        ensures { IfOk result (λ ps. ps.items ≡ living_children_in self.now process) }
+    {
+        living_children_of(alloc, self.members.as_slice(), process)
+    }
+
+    /// The living descendants of a process, by number.
+    pub fn descendants(&self, alloc: Global, process: ProcessId) -> Result<Vec<ProcessId>, NoMemory>
+        ensures { IfOk result (λ ps. ps.items ≡ descendants_in self.now process) }
+    {
+        descendants_of(alloc, self.members.as_slice(), process)
+    }
+
+    /// All living descendants of a process that waits for no children are over. They are told by number.
+    pub fn end_descendants(
+        &mut self,
+        alloc: Global,
+        process: ProcessId,
+    ) -> Result<Vec<ProcessId>, NoMemory>
+        requires { join_in (slice_get self.old process.0) ≡ None }
+        ensures ended { IfOk result (λ ps. ps.items ≡ descendants_in self.old process) }
+        ensures ok { OnOk result (self.new ≡ all_ended_in (descendants_in self.old process) self.old) }
+        ensures err { OnErr result (self.new ≡ self.old) }
+    {
+        let ended = descendants_of(alloc, self.members.as_slice(), process)?;
+        end_all(&mut self.members, ended.as_slice());
+        Ok(ended)
+    }
+}
