@@ -2,7 +2,7 @@
 ghost use Rattle.std.specs.Prelude.{◌≡◌, ◌∷◌, [], Some, slice_get, length};
 ghost use Rattle.std.specs.List.{list_all, list_any};
 ghost use Rattle.sv_fork.specs.Tree as tree;
-ghost use Rattle.sv_fork.specs.Tree.{all_ended_in, all_ready_in, awaiting_in, ended_in, is_awaited, is_over_in, join_in, joined_in, joins_in, listed, parent_of, IsTree};
+ghost use Rattle.sv_fork.specs.Tree.{all_ready_in, awaiting_in, ended_in, is_awaited, is_over_in, join_in, joined_in, joins_in, listed, parent_of, IsTree};
 
 use crate::join::Join;
 use crate::member::Member;
@@ -92,17 +92,6 @@ pub(crate) fn wait_in(members: &mut Vec<Member>, process: ProcessId, join: Join)
     let place = process.0 as usize;
     if place < members.len() {
         members[place].wait(join);
-    }
-}
-
-/// These processes are over.
-pub(crate) fn end_all(members: &mut Vec<Member>, processes: &[ProcessId])
-    ensures { members.new.items ≡ all_ended_in processes.now members.old.items }
-{
-    let mut left = processes;
-    while let [one, rest @ ..] = left {
-        end_in(members, *one);
-        left = rest;
     }
 }
 

@@ -2,12 +2,12 @@
 ghost use Rattle.std.specs.Prelude.{◌≡◌, ◌≢◌, ◌<◌, ◌≤◌, ◌^◌, ◌↔◌, [], Ok, Err, Some, None, true, false, nat_lt, length, slice_get, IfOk, OnOk, OnErr};
 ghost use Rattle.std.specs.List.{list_all};
 ghost use Rattle.sv_fork.specs.declared.tree.StartFault.TheVariants.{Memory};
-ghost use Rattle.sv_fork.specs.Tree.{all_ended_in, all_ready_in, awaiting_in, descendants_in, ended_in, is_awaited, is_living_child, join_in, joined_in, living_children_in, listed, parent_of, ready_in, side_of, started_in, with_root};
+ghost use Rattle.sv_fork.specs.Tree.{all_ready_in, awaiting_in, descendants_in, ended_in, is_awaited, is_living_child, joined_in, living_children_in, listed, parent_of, ready_in, side_of, started_in, with_root};
 
 use crate::family::{descendants_of, living_children_of};
 use crate::join::Join;
 use crate::member::Member;
-use crate::members::{end_all, end_in, finish_in, go_on_in, wait_in};
+use crate::members::{end_in, finish_in, go_on_in, wait_in};
 use std::alloc::{AllocFailed, Global};
 use std::marker::Model;
 use sv_value::{NoMemory, ProcessId, Side};
@@ -152,21 +152,5 @@ impl Tree {
         ensures { IfOk result (λ ps. ps.items ≡ descendants_in self.now process) }
     {
         descendants_of(alloc, self.members.as_slice(), process)
-    }
-
-    /// All living descendants of a process that waits for no children are over. They are told by number.
-    pub fn end_descendants(
-        &mut self,
-        alloc: Global,
-        process: ProcessId,
-    ) -> Result<Vec<ProcessId>, NoMemory>
-        requires { join_in (slice_get self.old process.0) ≡ None }
-        ensures ended { IfOk result (λ ps. ps.items ≡ descendants_in self.old process) }
-        ensures ok { OnOk result (self.new ≡ all_ended_in (descendants_in self.old process) self.old) }
-        ensures err { OnErr result (self.new ≡ self.old) }
-    {
-        let ended = descendants_of(alloc, self.members.as_slice(), process)?;
-        end_all(&mut self.members, ended.as_slice());
-        Ok(ended)
     }
 }
