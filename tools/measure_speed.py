@@ -10,7 +10,11 @@
 - memory: a write to a memory of 1,024 words each tick;
 - delays: 200 processes with delays of their own;
 - records: a record each tick;
-- cells: 10,000 instances of a flop behind gates.
+- cells: 10,000 instances of a flop behind gates;
+- calls: so many calls of an automatic function of one statement;
+- recursions: so many calls of a function that calls itself to a depth of 1,000;
+- forks: so many forks of three children, joined;
+- endings: so many forks of three children with delays, of which the first ends the others.
 
 Prints the processor seconds of the best of RUNS calls (5 where no number is given), and the greatest memory of these calls, of all designs or of those that
 are named. Each size is twice the one before. What Verilator takes to make a program is not counted. It is no part of the gate.
@@ -73,7 +77,30 @@ def cells(ticks):
     return cell + bench(f'  logic one = 1;\n{wires}\n{instances}', ticks)
 
 
-MEASURED = [(counter, 1_000_000), (shifter, 1_000), (enables, 5_000), (adder, 10_000), (memory, 1_000_000), (delays, 100_000), (records, 1_000_000), (cells, 1_000)]
+def program(text, items=''):
+    """A root whose one procedure runs this once."""
+    return f'module bench;\n{items}  int n = 0, a, b, c;\n  initial begin\n    {text}\n    $display("%0d", n);\n  end\nendmodule\n'
+
+
+def calls(count):
+    return program(f'repeat ({count}) n = next(n);', '  function automatic int next(int m);\n    next = m + 1;\n  endfunction\n')
+
+
+def recursions(count):
+    down = '  function automatic int down(int m);\n    if (m > 1) down = down(m - 1);\n    else down = 1;\n  endfunction\n'
+    return program(f'repeat ({count}) n = n + down(1000);', down)
+
+
+def forks(count):
+    return program(f'repeat ({count}) fork a = 1; b = 1; c = 1; join')
+
+
+def endings(count):
+    return program(f'repeat ({count}) begin fork #1 a = 1; #2 b = 1; #3 c = 1; join_any disable fork; end')
+
+
+MEASURED = [(counter, 1_000_000), (shifter, 1_000), (enables, 5_000), (adder, 10_000), (memory, 1_000_000), (delays, 100_000), (records, 1_000_000), (cells, 1_000),
+            (calls, 500_000), (recursions, 500), (forks, 40_000), (endings, 40_000)]
 
 
 def main():

@@ -1,11 +1,12 @@
 // What an expression reads from a store and from activations.
 ghost use Rattle.std.specs.Prelude.{◌≡◌};
+ghost use Rattle.sv_assign.specs.Seen.{is_name};
 
-use crate::Scoped;
+use crate::{Change, Scoped};
 use std::alloc::Global;
 use sv_arena::{Activations, Name};
 use sv_eval::Values;
-use sv_store::{Overwritten, Store};
+use sv_store::Store;
 use sv_value::{NoMemory, ObjId, Val};
 
 /// The values of a store, and of the activations from a scope on, at a time (IEEE 1800-2017, 6.5 and 6.21).
@@ -49,33 +50,114 @@ impl Scoped for Seen<'_, '_> {
     }
 }
 
-/// The same before a write to the store, told by what was overwritten (IEEE 1800-2017, 9.4.2).
+impl<'s, 'a> Seen<'s, 'a> {
+    /// The same, seen from another scope.
+    pub fn within(&self, scope: Option<Name>) -> Seen<'s, 'a>
+        ensures { result ≡ record self.now { scope = scope } }
+    {
+        Seen {
+            store: self.store,
+            activations: self.activations,
+            scope,
+            time: self.time,
+            unit: self.unit,
+        }
+    }
+}
+
+/// The same before a change, told by what was changed (IEEE 1800-2017, 9.4.2).
 #[derive(Clone, Copy)]
 pub struct Before<'s, 'a, 'o> {
-    /// The store after the write.
+    /// The store after the change.
     pub store: &'s Store,
+    /// The activations after the change.
     pub activations: &'a Activations,
     pub scope: Option<Name>,
     pub time: u64,
     pub unit: u64,
-    pub overwritten: &'o Overwritten,
+    pub change: &'o Change<'o>,
+}
+
+/// Whether the name of an activation, if there is one, is this one.
+fn is_name(found: Option<Name>, name: Name) -> bool
+    ensures { result ≡ is_name found name }
+{
+    match found {
+        Some(found) => found.process.0 == name.process.0 && found.place == name.place,
+        None => false,
+    }
+}
+
+impl<'s, 'a> Before<'s, 'a, '_> {
+    /// The same, seen from another scope.
+    pub fn within(&self, scope: Option<Name>) -> Self
+        ensures { result ≡ record self.now { scope = scope } }
+    {
+        Before {
+            store: self.store,
+            activations: self.activations,
+            scope,
+            time: self.time,
+            unit: self.unit,
+            change: self.change,
+        }
+    }
+
+    /// What is seen after the change.
+    pub fn after(&self) -> Seen<'s, 'a>
+        ensures { result ≡ record {
+          store = self.now.store;
+          activations = self.now.activations;
+          scope = self.now.scope;
+          time = self.now.time;
+          unit = self.now.unit;
+        } }
+    {
+        Seen {
+            store: self.store,
+            activations: self.activations,
+            scope: self.scope,
+            time: self.time,
+            unit: self.unit,
+        }
+    }
 }
 
 impl Values for Before<'_, '_, '_> {
-    ghost use Rattle.sv_assign.specs.Seen.{view_before};
+    ghost use Rattle.sv_assign.specs.Seen.{change_in, view_before};
 
-    ghost view = { λ b. view_before b.overwritten.now b.store.now b.activations.now.activations b.time b.unit b.scope };
+    ghost view = { λ b. view_before (change_in b.change.now) b.store.now b.activations.now.activations b.time b.unit b.scope };
 
     fn object(&self, alloc: Global, object: ObjId, element: u64) -> Result<Val, NoMemory> {
-        if object.0 == self.overwritten.object.0 {
-            self.store.read_before(alloc, self.overwritten, element)
-        } else {
-            self.store.read(alloc, object, element)
+        match *self.change {
+            Change::Object(overwritten) => {
+                if object.0 == overwritten.object.0 {
+                    self.store.read_before(alloc, overwritten, element)
+                } else {
+                    self.store.read(alloc, object, element)
+                }
+            }
+            Change::Variable { .. } => self.store.read(alloc, object, element),
         }
     }
 
     fn variable(&self, alloc: Global, up: u32, place: u64) -> Result<Val, NoMemory> {
-        self.activations.value(alloc, self.scope, up, place)
+        match *self.change {
+            Change::Object(_) => self.activations.value(alloc, self.scope, up, place),
+            Change::Variable {
+                name,
+                variable,
+                old,
+            } => {
+                if is_name(self.activations.name(self.scope, up), name)
+                    && place == u64::from(variable)
+                {
+                    old.copy(alloc)
+                } else {
+                    self.activations.value(alloc, self.scope, up, place)
+                }
+            }
+        }
     }
 
     fn time(&self) -> u64 {

@@ -79,32 +79,6 @@ abbrev pub IsBuiltOptional : Option Expr → Type 0
 IsBuiltOptional None = Unit {0}
 IsBuiltOptional (Some e) = IsBuiltExpr e
 
--- such an expression that reads no variable of an activation, so that it has one value in all scopes
-abbrev pub IsStaticExpr : Expr → Type 0
-IsStaticExpr (Literal v f) = Unit {0}
-IsStaticExpr (Text b) = Unit {0}
-IsStaticExpr (Object at o t) = IsBuiltType t
-IsStaticExpr (Element at o b t i) = IsStaticExpr i
-IsStaticExpr (Select w o f x a i) = IsStaticExpr a × IsStaticExpr i
-IsStaticExpr (Unary op a) = IsStaticExpr a
-IsStaticExpr (Binary op a b) = IsStaticExpr a × IsStaticExpr b
-IsStaticExpr (Choose c a b) = IsStaticExpr c × IsStaticExpr a × IsStaticExpr b
-IsStaticExpr (Join a b) = IsStaticExpr a × IsStaticExpr b
-IsStaticExpr (Repeat n a) = IsStaticExpr a
-IsStaticExpr (Convert t a) = IsStaticExpr a
-IsStaticExpr (Widen n s a) = IsStaticExpr a
-IsStaticExpr (Time at) = Unit {0}
-IsStaticExpr (Length a) = IsStaticExpr a
-IsStaticExpr (Log2 a) = IsStaticExpr a
-IsStaticExpr (Name is a) = IsStaticExpr a
-IsStaticExpr (Printed f p a) = IsStaticExpr a
-IsStaticExpr _ = ⊥
-
--- such an expression, if there is one
-abbrev pub IsStaticOptional : Option Expr → Type 0
-IsStaticOptional None = Unit {0}
-IsStaticOptional (Some e) = IsStaticExpr e
-
 -- ---- objects
 
 -- a variable, the result of a static function, or a net of vectors
@@ -154,9 +128,9 @@ abbrev pub IsBuiltEdge : Edge → Type 0
 IsBuiltEdge edge.Trigger = ⊥
 IsBuiltEdge _ = Unit {0}
 
--- an event expression of static objects, with an `iff` or without
+-- an event expression, with an `iff` or without
 abbrev pub IsBuiltWatch : Watch → Type 0
-IsBuiltWatch (On e g c) = IsBuiltEdge g × IsStaticExpr e × IsStaticOptional c
+IsBuiltWatch (On e g c) = IsBuiltEdge g × IsBuiltExpr e × IsBuiltOptional c
 IsBuiltWatch _ = ⊥
 
 -- ---- calls
@@ -217,7 +191,7 @@ IsBuiltForm (form.Call c) = IsBuiltCall c
 IsBuiltForm (form.Evaluate e) = IsBuiltExpr e
 IsBuiltForm (form.Delay e in_ticks) = IsBuiltExpr e
 IsBuiltForm (form.At ws) = AllByRecursion IsBuiltWatch ws
-IsBuiltForm (form.Wait e) = IsStaticExpr e
+IsBuiltForm (form.Wait e) = IsBuiltExpr e
 IsBuiltForm (form.Fork ts initializers children join) = AllByRecursion IsBuiltVariable ts
 IsBuiltForm form.WaitFork = Unit {0}
 IsBuiltForm form.DisableFork = Unit {0}

@@ -2,7 +2,7 @@
 ghost use Rattle.std.specs.Prelude.{◌↔◌, IsTrue};
 ghost use Rattle.std.specs.List.{AllByRecursion};
 ghost use Rattle.sv_flat.specs.Contexts.{IsWidth};
-ghost use Rattle.sv_built.specs.Built.{IsBuiltPlain, IsBuiltType, IsBuiltExpr, IsBuiltOptional, IsStaticExpr, IsStaticOptional};
+ghost use Rattle.sv_built.specs.Built.{IsBuiltPlain, IsBuiltType, IsBuiltExpr, IsBuiltOptional};
 
 use sv_flat::{DataType, Expr, ExprForm};
 use sv_value::{Plain, WIDEST};
@@ -82,44 +82,6 @@ pub fn is_built_expr(expr: &Expr) -> bool
         ExprForm::Log2 { operand } => is_built_expr(operand),
         ExprForm::Name { operand, .. } => is_built_expr(operand),
         ExprForm::Printed { operand, .. } => is_built_expr(operand),
-        _ => false,
-    }
-}
-
-/// Whether an expression that may be missing is static.
-pub fn is_static_optional(expr: &Option<Expr>) -> bool
-    ensures { IsTrue result ↔ IsStaticOptional expr.now }
-{
-    match expr {
-        None => true,
-        Some(expr) => is_static_expr(expr),
-    }
-}
-
-/// Whether an expression is built and reads no variable of an activation.
-pub fn is_static_expr(expr: &Expr) -> bool
-    ensures { IsTrue result ↔ IsStaticExpr expr.now }
-{
-    match &*expr.form {
-        ExprForm::Literal { .. } => true,
-        ExprForm::Text { .. } => true,
-        ExprForm::Time { .. } => true,
-        ExprForm::Object { ty, .. } => is_built_type(*ty),
-        ExprForm::Element { index, .. } => is_static_expr(index),
-        ExprForm::Select { base, index, .. } => is_static_expr(base) && is_static_expr(index),
-        ExprForm::Unary { operand, .. } => is_static_expr(operand),
-        ExprForm::Binary { left, right, .. } => is_static_expr(left) && is_static_expr(right),
-        ExprForm::Choose { condition, yes, no } => {
-            is_static_expr(condition) && is_static_expr(yes) && is_static_expr(no)
-        }
-        ExprForm::Join { high, low } => is_static_expr(high) && is_static_expr(low),
-        ExprForm::Repeat { part, .. } => is_static_expr(part),
-        ExprForm::Convert { operand, .. } => is_static_expr(operand),
-        ExprForm::Widen { operand, .. } => is_static_expr(operand),
-        ExprForm::Length { text } => is_static_expr(text),
-        ExprForm::Log2 { operand } => is_static_expr(operand),
-        ExprForm::Name { operand, .. } => is_static_expr(operand),
-        ExprForm::Printed { operand, .. } => is_static_expr(operand),
         _ => false,
     }
 }

@@ -4,9 +4,7 @@ ghost use Rattle.std.specs.List.{AllByRecursion};
 ghost use Rattle.sv_built.specs.Built.{IsBuiltType, IsBuiltVariable, IsBuiltItem, IsBuiltKindOfPrint, IsBuiltForm, IsBuiltStmt, IsBuiltSubroutine, IsBuiltRoutine};
 
 use crate::calls::{are_built_calls, is_built_call};
-use crate::exprs::{
-    are_built_exprs, is_built_expr, is_built_optional, is_built_type, is_static_expr,
-};
+use crate::exprs::{are_built_exprs, is_built_expr, is_built_optional, is_built_type};
 use crate::targets::{are_built_targets, are_built_watches};
 use sv_flat::{CaseItem, DataType, Declared, Form, PrintKind, Routine, Stmt, Subroutine};
 
@@ -116,7 +114,7 @@ fn is_built_form(form: &Form) -> bool
         Form::Evaluate { value } => is_built_expr(value),
         Form::Delay { amount, .. } => is_built_expr(amount),
         Form::At { watches } => are_built_watches(watches.as_slice()),
-        Form::Wait { condition } => is_static_expr(condition),
+        Form::Wait { condition } => is_built_expr(condition),
         Form::Print { kind, values, .. } => {
             is_built_kind(*kind) && are_built_exprs(values.as_slice())
         }

@@ -3,7 +3,7 @@ ghost use Rattle.std.specs.Prelude.{◌↔◌, IsTrue};
 ghost use Rattle.std.specs.List.{AllByRecursion};
 ghost use Rattle.sv_built.specs.Built.{IsBuiltBase, IsBuiltPart, IsBuiltTarget, IsBuiltEdge, IsBuiltWatch};
 
-use crate::exprs::{is_built_expr, is_static_expr, is_static_optional};
+use crate::exprs::{is_built_expr, is_built_optional};
 use sv_flat::{Base, Edge, Lvalue, Part, Watch};
 
 /// Whether all of these are built.
@@ -66,7 +66,7 @@ fn is_built_watch(watch: &Watch) -> bool
             expr,
             edge,
             condition,
-        } => is_built_edge(*edge) && is_static_expr(expr) && is_static_optional(condition),
+        } => is_built_edge(*edge) && is_built_expr(expr) && is_built_optional(condition),
         Watch::Updates(_, _) => false,
     }
 }

@@ -17,6 +17,7 @@ use crate::samples::add_samples;
 use crate::signals::add_all;
 use crate::skews::{defaults, usual_skews};
 use std::alloc::Global;
+use sv_elab_drives::Drives;
 use sv_elab_signal::{event_of, signals_in};
 use sv_flat::{Clocking, Edge, Object, Signal};
 use sv_names::{Around, Path, Refusal, first, where_also};
@@ -52,7 +53,7 @@ fn add_signals(
     around: &Around,
     block: &[Text],
     items: &[ClockingItem],
-    before: &mut Seq<Path>,
+    before: &mut Drives,
     list: &mut Seq<Signal>,
 ) -> Result<(), Refusal>
     ensures { AddsSignals before.old before.new list.old list.new result
@@ -134,7 +135,7 @@ pub fn clocking_of(
     around: &Around,
     path: &[Text],
     block: &ClockingBlock,
-    before: &mut Seq<Path>,
+    before: &mut Drives,
     objects: &mut Seq<Object>,
 ) -> Result<Clocking, Refusal>
     ensures { EmitsClocking before.old before.new objects.old objects.new result

@@ -15,10 +15,10 @@ ghost use Rattle.sv_elab_clocking.specs.Skews.{skews_in};
 
 use crate::skews::{Skews, with_skews};
 use std::alloc::Global;
-use sv_elab_drive::times_in;
+use sv_elab_drives::Drives;
 use sv_elab_signal::{object_meant, signal_of_named};
 use sv_flat::{Input, Output, Signal, Skew};
-use sv_names::{Around, Meaning, Named, Path, Refusal, SignalInfo, copy_path, first};
+use sv_names::{Around, Meaning, Named, Refusal, SignalInfo, copy_path, first};
 use sv_tree::{ClockingItem, Name, Sided};
 use sv_value::{NoMemory, Seq, Text};
 
@@ -106,16 +106,16 @@ fn signal_over(around: &Around, skews: Skews, name: &Name, info: &SignalInfo, dr
 }
 
 /// The number of the driver of a net, which is driven from now on.
-fn driven(alloc: Global, net: Option<&[Text]>, before: &mut Seq<Path>) -> Result<u32, NoMemory>
+fn driven(alloc: Global, net: Option<&[Text]>, before: &mut Drives) -> Result<u32, NoMemory>
     ensures number { IfOk result (λ n. n ≡ clockings.driver_of before.old (words.paths_of (option_map (λ p. p.now) net.entry))) }
     ensures drives { OnOk result (before.new ≡ before.old ++ words.paths_of (option_map (λ p. p.now) net.entry)) }
 {
     match net {
         None => Ok(0),
         Some(path) => {
-            let number = times_in(path, before.as_slice())?;
+            let number = before.times(path)?;
             let path = copy_path(alloc, path)?;
-            before.push(path)?;
+            before.push(alloc, path)?;
             Ok(number)
         }
     }
@@ -131,7 +131,7 @@ fn signal_meant(
     sides: &[Sided],
     name: &Name,
     meaning: Meaning,
-    before: &mut Seq<Path>,
+    before: &mut Drives,
 ) -> Result<Signal, Refusal>
     ensures { EmitsSignal before.old before.new result
         (words.signal_meant (around_in around.now) block.now (skews_in skews) (map sided sides.now) name.now (meaning_in meaning.entry)) }
@@ -154,7 +154,7 @@ fn signal_named(
     skews: Skews,
     sides: &[Sided],
     name: &Name,
-    before: &mut Seq<Path>,
+    before: &mut Drives,
 ) -> Result<Signal, Refusal>
     ensures { EmitsSignal before.old before.new result
         (clockings.signal_named (around_in around.now) block.now (skews_in skews) (map sided sides.now) name.now) }
@@ -176,7 +176,7 @@ fn add_signal(
     skews: Skews,
     sides: &[Sided],
     name: &Name,
-    before: &mut Seq<Path>,
+    before: &mut Drives,
     list: &mut Seq<Signal>,
 ) -> Result<(), Refusal>
     ensures { AddsSignals before.old before.new list.old list.new result (words.one_in_list
@@ -215,7 +215,7 @@ fn add_signals(
     skews: Skews,
     sides: &[Sided],
     names: &[Name],
-    before: &mut Seq<Path>,
+    before: &mut Drives,
     list: &mut Seq<Signal>,
 ) -> Result<(), Refusal>
     ensures { AddsSignals before.old before.new list.old list.new result
@@ -239,7 +239,7 @@ fn add_named(
     skews: Skews,
     sides: &[Sided],
     names: &[Name],
-    before: &mut Seq<Path>,
+    before: &mut Drives,
     list: &mut Seq<Signal>,
 ) -> Result<(), Refusal>
     ensures { AddsSignals before.old before.new list.old list.new result (clockings.item_signals
@@ -262,7 +262,7 @@ fn add_item(
     block: &[Text],
     skews: Skews,
     item: &ClockingItem,
-    before: &mut Seq<Path>,
+    before: &mut Drives,
     list: &mut Seq<Signal>,
 ) -> Result<(), Refusal>
     ensures { AddsSignals before.old before.new list.old list.new result
@@ -285,7 +285,7 @@ pub fn add_all(
     block: &[Text],
     skews: Skews,
     items: &[ClockingItem],
-    before: &mut Seq<Path>,
+    before: &mut Drives,
     list: &mut Seq<Signal>,
 ) -> Result<(), Refusal>
     ensures { AddsSignals before.old before.new list.old list.new result

@@ -18,7 +18,8 @@ ghost use Rattle.sv_elab_drive.specs.Making.{EmitsProcess, EmitsAny};
 
 use std::alloc::Global;
 use sv_elab_assign::value_given;
-use sv_elab_drive::{add_paths, all_driving, assigning, nets_of};
+use sv_elab_drive::{all_driving, assigning, nets_of};
+use sv_elab_drives::Drives;
 use sv_elab_expr::place_of;
 use sv_elab_select::Spot;
 use sv_flat::{Form, Process, ProcessKind, Routine};
@@ -34,7 +35,7 @@ fn put_process(
     kind: ProcessKind,
     form: Hoisted<Form>,
     nets: Seq<Path>,
-    before: &mut Seq<Path>,
+    before: &mut Drives,
     routines: &mut Seq<Routine>,
 ) -> Result<Process, Refusal>
     ensures ok { IfOk result (λ p. p
@@ -44,7 +45,7 @@ fn put_process(
     ensures drives { OnOk result (before.new ≡ before.old ++ nets) }
     ensures err { IfErr result (λ e. e ≡ Memory) }
 {
-    add_paths(nets, before)?;
+    before.append(alloc, nets)?;
     assigning(alloc, around, at, kind, form, routines)
 }
 
@@ -57,7 +58,7 @@ fn made(
     spots: Seq<Spot>,
     place: Place,
     value: Typed,
-    before: &mut Seq<Path>,
+    before: &mut Drives,
     routines: &mut Seq<Routine>,
 ) -> Result<Process, Refusal>
     ensures { EmitsProcess before.old before.new routines.old routines.new result
@@ -65,7 +66,7 @@ fn made(
         (values.assigned (around_in around.now) (targets.type_of_target spots) place value)) }
 {
     let nets = nets_of(alloc, spots.as_slice())?;
-    let driving = all_driving(alloc, before.as_slice(), spots)?;
+    let driving = all_driving(alloc, before, spots)?;
     match value_given(alloc, around, None, place, driving, value) {
         Ok(form) => put_process(alloc, around, at, kind, form, nets, before, routines),
         Err(e) => Err(e),
@@ -82,7 +83,7 @@ pub fn continuous(
     target: Result<Seq<Spot>, Refusal>,
     of: &Expr,
     value: Result<Typed, Refusal>,
-    before: &mut Seq<Path>,
+    before: &mut Drives,
     routines: &mut Seq<Routine>,
 ) -> Result<Process, Refusal>
     ensures { (t : checked (List targets.Spot)) (v : checked typed) → Gives target t → Gives value v

@@ -10,9 +10,10 @@ ghost use Rattle.sv_elab_drive.specs.Making.{EmitsProcess, EmitsAny};
 
 use crate::giving::{continuous, one_made};
 use std::alloc::Global;
+use sv_elab_drives::Drives;
 use sv_elab_expr::{expr, target_of_name};
 use sv_flat::{Process, ProcessKind, Routine};
-use sv_names::{Around, How, Path, Refusal, answer};
+use sv_names::{Around, How, Refusal, answer};
 use sv_tree::{Expr, Name, NetItem, Root};
 use sv_value::{NoMemory, Seq};
 
@@ -30,7 +31,7 @@ fn net_process(
     around: &Around,
     name: &Name,
     e: &Expr,
-    before: &mut Seq<Path>,
+    before: &mut Drives,
     routines: &mut Seq<Routine>,
 ) -> Result<Process, Refusal>
     ensures { EmitsProcess before.old before.new routines.old routines.new result
@@ -51,7 +52,7 @@ pub fn net_made(
     alloc: Global,
     around: &Around,
     net: &NetItem,
-    before: &mut Seq<Path>,
+    before: &mut Drives,
     routines: &mut Seq<Routine>,
 ) -> Result<Option<Process>, Refusal>
     ensures { EmitsAny before.old before.new routines.old routines.new result

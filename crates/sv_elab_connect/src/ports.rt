@@ -20,10 +20,11 @@ use crate::links::{Linked, linked_port};
 use crate::objects::{finds_object, port_target, port_value};
 use crate::stands::expr_stands;
 use std::alloc::Global;
+use sv_elab_drives::Drives;
 use sv_elab_expr::{expr, place_of, target_in};
 use sv_elab_unit::PortInfo;
 use sv_flat::{Process, ProcessKind, Routine};
-use sv_names::{Around, How, Path, Refusal, Scope, answer, first};
+use sv_names::{Around, How, Refusal, Scope, answer, first};
 use sv_tree::{Connection, Expr, Name, Root};
 use sv_value::{Excerpt, NoMemory, Place, Seq};
 
@@ -59,7 +60,7 @@ fn input_link(
     around: &Around,
     link: Link,
     e: &Expr,
-    before: &mut Seq<Path>,
+    before: &mut Drives,
     routines: &mut Seq<Routine>,
 ) -> Result<Process, Refusal>
     ensures { (c : instances.Inst) → c.group.scope ≡ link.entry.scope.now → EmitsProcess before.old before.new routines.old routines.new result
@@ -86,7 +87,7 @@ fn output_link(
     around: &Around,
     link: Link,
     e: &Expr,
-    before: &mut Seq<Path>,
+    before: &mut Drives,
     routines: &mut Seq<Routine>,
 ) -> Result<Process, Refusal>
     ensures { (c : instances.Inst) → c.group.scope ≡ link.entry.scope.now → EmitsProcess before.old before.new routines.old routines.new result
@@ -113,7 +114,7 @@ fn link_to(
     around: &Around,
     link: Link,
     e: &Expr,
-    before: &mut Seq<Path>,
+    before: &mut Drives,
     routines: &mut Seq<Routine>,
 ) -> Result<Process, Refusal>
     ensures { (c : instances.Inst) → c.group.scope ≡ link.entry.scope.now → EmitsProcess before.old before.new routines.old routines.new result
@@ -141,7 +142,7 @@ fn same_link(
     around: &Around,
     link: Link,
     place: Place,
-    before: &mut Seq<Path>,
+    before: &mut Drives,
     routines: &mut Seq<Routine>,
 ) -> Result<Process, Refusal>
     ensures { (c : instances.Inst) → c.group.scope ≡ link.entry.scope.now → EmitsProcess before.old before.new routines.old routines.new result
@@ -159,7 +160,7 @@ fn made_link(
     scope: &Scope,
     port: &PortInfo,
     linked: Linked,
-    before: &mut Seq<Path>,
+    before: &mut Drives,
     routines: &mut Seq<Routine>,
 ) -> Result<Option<Process>, Refusal>
     ensures { (c : instances.Inst) → c.group.scope ≡ scope.now → EmitsAny before.old before.new routines.old routines.new result
@@ -187,7 +188,7 @@ fn link_of(
     scope: &Scope,
     port: &PortInfo,
     linked: Option<Linked>,
-    before: &mut Seq<Path>,
+    before: &mut Drives,
     routines: &mut Seq<Routine>,
 ) -> Result<Option<Process>, Refusal>
     ensures { (c : instances.Inst) → c.group.scope ≡ scope.now → EmitsAny before.old before.new routines.old routines.new result
@@ -207,7 +208,7 @@ pub fn port_link(
     names: &[&[u8]],
     all: &[Connection],
     port: &PortInfo,
-    before: &mut Seq<Path>,
+    before: &mut Drives,
     routines: &mut Seq<Routine>,
 ) -> Result<Option<Process>, Refusal>
     ensures { (c : instances.Inst) → c.group.scope ≡ scope.now → names_in names.now ≡ instances.port_names c.unit.element

@@ -24,7 +24,7 @@ use sv_elab_comb::watching;
 use sv_elab_item::add_given;
 use sv_elab_parts::SoFar;
 use sv_elab_scope::Group;
-use sv_elab_unit::roots;
+use sv_elab_unit::{Units, roots};
 use sv_elab_walk::{Walked, walked};
 use sv_flat::{Parts, Scale};
 use sv_names::{Around, Dollar, Numbers, Refusal, Returns, answer, first, where_also};
@@ -32,7 +32,7 @@ use sv_tree::{Description, Timescale};
 use sv_value::{NoMemory, Place};
 
 /// E4: there is a root.
-fn some_root(alloc: Global, units: &[Description], top: Option<&[u8]>) -> Result<(), Refusal>
+fn some_root(alloc: Global, units: &Units, top: Option<&[u8]>) -> Result<(), Refusal>
     ensures { Gives result (instances.some_root (instances.roots (map description units.now) (option_map (λ x. x.now) top.entry))) }
 {
     let all = roots(alloc, units, top)?;
@@ -50,7 +50,7 @@ fn some_root(alloc: Global, units: &[Description], top: Option<&[u8]>) -> Result
 /// What all items give, where so many subroutines are to come.
 fn given_with<'f>(
     alloc: Global,
-    units: &[Description],
+    units: &Units,
     files: &'f Around<'f>,
     group: &Group,
     walked: &'f [Walked],
@@ -86,7 +86,7 @@ fn and_met(given: Result<SoFar, Refusal>, met: Result<(), Refusal>) -> Result<So
 /// What all items give without numbers, and the rules on writers and limits beside it.
 fn given_first<'f>(
     alloc: Global,
-    units: &[Description],
+    units: &Units,
     files: &'f Around<'f>,
     group: &Group,
     walked: &'f [Walked],
@@ -95,7 +95,7 @@ fn given_first<'f>(
         (words.given_guarded (map description units.now) (around_in files.now) (group_in group.now) (map walked_in walked.now)) }
 {
     let given = given_with(alloc, units, files, group, walked, 0);
-    let met = all_met_stand(alloc, units, files, group, walked);
+    let met = all_met_stand(alloc, units.all(), files, group, walked);
     and_met(given, met)
 }
 
@@ -135,7 +135,7 @@ fn numbers_over(
 /// The design with the numbers that its parts have, where these were given without numbers.
 fn numbered(
     alloc: Global,
-    units: &[Description],
+    units: &Units,
     scale: Scale,
     group: &Group,
     walked: &[Walked],
@@ -167,7 +167,7 @@ fn numbered(
 /// The design of what is walked.
 fn design_over<'f>(
     alloc: Global,
-    units: &[Description],
+    units: &Units,
     scale: Scale,
     files: &'f Around<'f>,
     group: &Group,
@@ -185,7 +185,7 @@ fn design_over<'f>(
 /// The design over the scope of the files.
 fn with_files(
     alloc: Global,
-    units: &[Description],
+    units: &Units,
     scale: Scale,
     top: Option<&[u8]>,
 ) -> Result<Parts, Refusal>
@@ -194,7 +194,7 @@ fn with_files(
     let numbers = no_numbers(alloc)?;
     let (dollar, returns) = (Dollar::NoDollar, Returns::Outside);
     let outer = nowhere(&numbers, scale, &dollar, &returns);
-    let group = file_group(alloc, &outer, units)?;
+    let group = file_group(alloc, &outer, units.all())?;
     let scopes = scopes_of(alloc, &group)?;
     let classes = classes_of(alloc, &group)?;
     let files = Around {
@@ -202,8 +202,22 @@ fn with_files(
         classes: classes.as_slice(),
         ..outer
     };
-    let walked = walked(alloc, units, &files, top)?;
+    let walked = walked(alloc, &*units, &files, top)?;
     design_over(alloc, units, scale, &files, &group, walked.as_slice())
+}
+
+/// The design, with the rules on time scales, and that there is a root.
+fn elaborated(
+    alloc: Global,
+    units: &Units,
+    scales: &[Timescale],
+    top: Option<&[u8]>,
+) -> Result<Parts, Refusal>
+    ensures { Gives result (design.elaborated (map description units.now) scales.now (option_map (λ x. x.now) top.entry)) }
+{
+    let parts = with_files(alloc, units, scale_of(scales), top);
+    let agreed = where_also(parts, answer(scales_agree(scales)));
+    where_also(agreed, some_root(alloc, units, top))
 }
 
 /// The flat design of the descriptions of all files, with their time scales in the order of the text, under the unit that is named or under all that
@@ -216,7 +230,6 @@ pub fn elaborate(
 ) -> Result<Parts, Refusal>
     ensures { Gives result (design.elaborated (map description units.now) scales.now (option_map (λ x. x.now) top.entry)) }
 {
-    let parts = with_files(alloc, units, scale_of(scales), top);
-    let agreed = where_also(parts, answer(scales_agree(scales)));
-    where_also(agreed, some_root(alloc, units, top))
+    let units = Units::new(alloc, units)?;
+    elaborated(alloc, &units, scales, top)
 }

@@ -4,19 +4,18 @@ ghost use Rattle.sv_names.specs.Design as design;
 ghost use Rattle.sv_elab_parts.specs.Adding.{so_far_in};
 
 use std::alloc::Global;
-use sv_elab_drive::times_in;
+use sv_elab_drives::Drives;
 use sv_elab_parts::SoFar;
 use sv_flat::{Instance, Object, ObjectKind, Parts, Routine, Scale};
-use sv_names::Path;
 use sv_value::{NoMemory, Seq};
 
 /// Gives an object that is a net the number of its drivers.
-fn set_drivers(drives: &[Path], object: &mut Object) -> Result<(), NoMemory>
+fn set_drivers(drives: &Drives, object: &mut Object) -> Result<(), NoMemory>
     ensures { OnOk result (object.new ≡ design.with_drivers drives.now object.old) }
 {
     match object.kind {
         ObjectKind::Net(_) => {
-            let count = times_in(object.path.as_slice(), drives)?;
+            let count = drives.times(object.path.as_slice())?;
             object.kind = ObjectKind::Net(count);
             Ok(())
         }
@@ -25,7 +24,7 @@ fn set_drivers(drives: &[Path], object: &mut Object) -> Result<(), NoMemory>
 }
 
 /// Appends objects, nets with the number of their drivers.
-fn add_driven(drives: &[Path], objects: Seq<Object>, list: &mut Seq<Object>) -> Result<(), NoMemory>
+fn add_driven(drives: &Drives, objects: Seq<Object>, list: &mut Seq<Object>) -> Result<(), NoMemory>
     ensures { OnOk result (list.new ≡ list.old ++ map (design.with_drivers drives.now) objects) }
 {
     for object in objects.into_vec() {
@@ -80,8 +79,8 @@ pub(crate) fn parts_from(
         clocking_paths: _,
     } = so_far;
     let mut all = Seq::new(alloc);
-    add_driven(drives.as_slice(), objects, &mut all)?;
-    add_driven(drives.as_slice(), samples, &mut all)?;
+    add_driven(&drives, objects, &mut all)?;
+    add_driven(&drives, samples, &mut all)?;
     let routines = all_routines(subroutines, places, routines)?;
     Ok(Parts {
         objects: all,

@@ -1,23 +1,12 @@
--- How often a path stands in a list, and lists of paths.
-use Rattle.std.proofs.Common.{◌≡◌, ℕ, ◌+◌, Bool, true, false, List, [], ◌∷◌, ◌++◌, sym, ap, ◌∙◌, zero-add, if◌then◌else◌, arith}
+-- Lists of paths, and the nets that parts of targets drive.
+use Rattle.std.proofs.Common.{◌≡◌, ℕ, Bool, true, false, List, [], ◌∷◌, ◌++◌, sym, ap, ◌∙◌, if◌then◌else◌}
 use Rattle.sv_flat.specs.declared.target.Base.{Base}
 use Rattle.sv_names.specs.Clockings.{times_in}
 use Rattle.sv_names.specs.Connections.{net_driven, as_driver}
 use Rattle.sv_names.specs.Targets.{Spot}
-use Rattle.sv_names.specs.Types.{Path, same_path, has_path}
+use Rattle.sv_names.specs.Types.{Path, has_path}
 use Rattle.sv_names.specs.Writers.{with_new}
 use Rattle.sv_elab_drive.specs.Driven.{driven_base, with_base, driving}
-
--- another path
-pub other_path : (p q : Path) (ps : List Path) → same_path p q ≡ false → times_in p ps ≡ times_in p (q ∷ ps)
-other_path p q ps other =
-    sym (zero-add (times_in p ps)) ∙ ap (λ (b : Bool). (if b then 1 else 0) + times_in p ps) (sym other)
-
--- the path itself
-pub same_paths : (p q : Path) (ps : List Path) → same_path p q ≡ true → times_in p ps + 1 ≡ times_in p (q ∷ ps)
-same_paths p q ps same =
-    let more : times_in p ps + 1 ≡ 1 + times_in p ps = omega arith in
-    more ∙ ap (λ (b : Bool). (if b then 1 else 0) + times_in p ps) (sym same)
 
 module _ (ps : List Path) (s : Spot) where
   pub no_path : [] ≡ net_driven s → ps ≡ with_new ps (net_driven s)

@@ -1,12 +1,12 @@
 // The nets that a target drives, each driver with its number (IEEE 1800-2017, 6.6.1 and 10.3.2).
 ghost use Rattle.std.specs.Prelude.{◌≡◌, [], ◌++◌, IfOk, OnOk, map, option_map};
-ghost use Rattle.sv_names.specs.Clockings as clockings;
 ghost use Rattle.sv_names.specs.Connections as connections;
 ghost use Rattle.sv_names.specs.Types as types;
 ghost use Rattle.sv_names.specs.Writers as writers;
 ghost use Rattle.sv_elab_drive.specs.Driven as driven;
 
 use std::alloc::Global;
+use sv_elab_drives::Drives;
 use sv_elab_select::Spot;
 use sv_flat::Base;
 use sv_names::{Begin, Path, copy_path, same_path};
@@ -19,26 +19,6 @@ fn net_driven(spot: &Spot) -> Option<&[Text]>
     match &spot.1.target.begins {
         Begin::Net(path) => Some(path.as_slice()),
         _ => None,
-    }
-}
-
-/// How often a path stands in a list.
-#[tactic(auto, using(crate::proofs::CountLaws::other_path, crate::proofs::CountLaws::same_paths))]
-pub fn times_in(path: &[Text], list: &[Path]) -> Result<u32, NoMemory>
-    ensures { IfOk result (λ n. n ≡ clockings.times_in path.now list.now) }
-{
-    match list {
-        [] => Ok(0),
-        [one, rest @ ..] => {
-            let behind = times_in(path, rest)?;
-            if !same_path(path, one.as_slice()) {
-                return Ok(behind);
-            }
-            match behind.checked_add(1) {
-                Some(times) => Ok(times),
-                None => Err(NoMemory::Memory),
-            }
-        }
     }
 }
 
@@ -127,13 +107,13 @@ fn set_driver(number: u32, base: &mut Base)
 
 /// Turns a part of a target, which drives its net behind these drivers.
 #[tactic(auto, using(crate::proofs::CountLaws::drives_none, crate::proofs::CountLaws::drives_net))]
-fn drive(before: &[Path], spot: &mut Spot) -> Result<(), NoMemory>
+fn drive(before: &Drives, spot: &mut Spot) -> Result<(), NoMemory>
     ensures { OnOk result (spot.new ≡ driven.driving before.now spot.old) }
 {
     match net_driven(spot) {
         None => Ok(()),
         Some(path) => {
-            let number = times_in(path, before)?;
+            let number = before.times(path)?;
             set_driver(number, &mut spot.1.target.base);
             Ok(())
         }
@@ -141,7 +121,7 @@ fn drive(before: &[Path], spot: &mut Spot) -> Result<(), NoMemory>
 }
 
 /// The parts of a target, which drive their nets behind these drivers.
-pub fn all_driving(alloc: Global, before: &[Path], spots: Seq<Spot>) -> Result<Seq<Spot>, NoMemory>
+pub fn all_driving(alloc: Global, before: &Drives, spots: Seq<Spot>) -> Result<Seq<Spot>, NoMemory>
     ensures { IfOk result (λ ss. ss ≡ map (driven.driving before.now) spots) }
 {
     let mut done = Seq::new(alloc);
@@ -151,14 +131,4 @@ pub fn all_driving(alloc: Global, before: &[Path], spots: Seq<Spot>) -> Result<S
         done.push(spot)?;
     }
     Ok(done)
-}
-
-/// Appends paths.
-pub fn add_paths(nets: Seq<Path>, before: &mut Seq<Path>) -> Result<(), NoMemory>
-    ensures { OnOk result (before.new ≡ before.old ++ nets) }
-{
-    for net in nets.into_vec() {
-        before.push(net)?;
-    }
-    Ok(())
 }

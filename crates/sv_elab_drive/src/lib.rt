@@ -10,5 +10,5 @@ mod drivers;
 mod processes;
 mod watched;
 
-pub use drivers::{add_paths, all_driving, nets_of, times_in};
+pub use drivers::{all_driving, nets_of};
 pub use processes::assigning;

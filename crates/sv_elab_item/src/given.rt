@@ -14,6 +14,7 @@ use crate::walked::add_walked;
 use std::alloc::Global;
 use sv_elab_parts::{SoFar, and_adding};
 use sv_elab_scope::Group;
+use sv_elab_unit::Units;
 use sv_elab_walk::Walked;
 use sv_names::{Around, Refusal};
 use sv_tree::Description;
@@ -58,7 +59,7 @@ fn add_outside(
 /// Puts what is met on the walk behind what stands so far.
 fn add_all_walked<'f>(
     alloc: Global,
-    units: &[Description],
+    units: &Units,
     files: &'f Around<'f>,
     all: &'f [Walked],
     before: Result<(), Refusal>,
@@ -79,7 +80,7 @@ fn add_all_walked<'f>(
 #[tactic(auto, using(crate::proofs::GivenListLaws::all_given))]
 pub fn add_given<'f>(
     alloc: Global,
-    units: &[Description],
+    units: &Units,
     files: &'f Around<'f>,
     group: &Group,
     walked: &'f [Walked],
@@ -88,6 +89,6 @@ pub fn add_given<'f>(
     ensures { AddingAll so_far.old so_far.new result (design.given_parts (map description units.now) (around_in files.now) (group_in group.now)
         (map walked_in walked.now)) }
 {
-    let done = add_outside(alloc, units, files, group, so_far);
+    let done = add_outside(alloc, units.all(), files, group, so_far);
     add_all_walked(alloc, units, files, walked, done, so_far)
 }

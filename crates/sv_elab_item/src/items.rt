@@ -21,10 +21,10 @@ use sv_elab_clocking::clocking_of;
 use sv_elab_connect::connections_stand;
 use sv_elab_parts::{SoFar, guarded_adding};
 use sv_elab_signal::within;
-use sv_elab_unit::definition_named;
+use sv_elab_unit::Units;
 use sv_elab_walk::Inst;
 use sv_names::{Around, Named, Refusal};
-use sv_tree::{AssignItem, ClockingBlock, Decl, Description, Instances, Item, Name, NetDecl};
+use sv_tree::{AssignItem, ClockingBlock, Decl, Instances, Item, Name, NetDecl};
 use sv_value::{Place, Text};
 
 /// Puts the variables of a declaration behind what stands so far.
@@ -97,7 +97,7 @@ fn add_assign(
 /// What an item with instances breaks; its instances are met on the walk.
 fn add_instances(
     alloc: Global,
-    units: &[Description],
+    units: &Units,
     around: &Around,
     inst: &Inst,
     of: &Instances,
@@ -106,7 +106,7 @@ fn add_instances(
     ensures { Adding so_far.old so_far.new result
         (items.item_parts (map description units.now) (around_in around.now) (inst_in inst.now) (tree.Instances (instances_in of.now))) }
 {
-    let unit = definition_named(of.of.text.bytes(), units);
+    let unit = units.named(of.of.text.bytes());
     let stand = instances_stand(alloc, around, inst.chain.as_slice(), of, unit);
     let guarded = guarded_adding(Ok(()), stand);
     guarded_adding(
@@ -158,7 +158,7 @@ fn default_stands(around: &Around, name: &Name) -> Result<(), Refusal>
 #[tactic(auto, using(crate::proofs::CommonLaws::nothing_added))]
 pub(crate) fn add_item(
     alloc: Global,
-    units: &[Description],
+    units: &Units,
     around: &Around,
     inst: &Inst,
     one: &Item,

@@ -19,11 +19,12 @@ ghost use Rattle.sv_elab_item.specs.Parts as parts;
 
 use std::alloc::Global;
 use sv_elab_connect::{continuous, net_made, port_link};
+use sv_elab_drives::Drives;
 use sv_elab_expr::expr;
 use sv_elab_unit::PortInfo;
 use sv_elab_write::{place_of_target, target_of};
 use sv_flat::{Process, ProcessKind, Routine};
-use sv_names::{Around, How, Path, Refusal, Scope, answer, first};
+use sv_names::{Around, How, Refusal, Scope, answer, first};
 use sv_tree::{AssignItem, Connection, NetItem};
 use sv_value::Seq;
 
@@ -86,7 +87,7 @@ fn assign_made(
     alloc: Global,
     around: &Around,
     of: &AssignItem,
-    before: &mut Seq<Path>,
+    before: &mut Drives,
     routines: &mut Seq<Routine>,
 ) -> Result<Process, Refusal>
     ensures { EmitsProcess before.old before.new routines.old routines.new result
@@ -106,7 +107,7 @@ pub(crate) fn add_assigns(
     around: &Around,
     all: &[AssignItem],
     processes: &mut Seq<Process>,
-    before: &mut Seq<Path>,
+    before: &mut Drives,
     routines: &mut Seq<Routine>,
 ) -> Result<(), Refusal>
     ensures { AddsProcesses processes.old processes.new routines.old routines.new before.old before.new result
@@ -128,7 +129,7 @@ pub(crate) fn add_net_values(
     around: &Around,
     all: &[NetItem],
     processes: &mut Seq<Process>,
-    before: &mut Seq<Path>,
+    before: &mut Drives,
     routines: &mut Seq<Routine>,
 ) -> Result<(), Refusal>
     ensures { AddsProcesses processes.old processes.new routines.old routines.new before.old before.new result
@@ -153,7 +154,7 @@ pub(crate) fn add_links(
     all: &[Connection],
     ports: &[PortInfo],
     processes: &mut Seq<Process>,
-    before: &mut Seq<Path>,
+    before: &mut Drives,
     routines: &mut Seq<Routine>,
 ) -> Result<(), Refusal>
     ensures { (c : instances.Inst) → c.group.scope ≡ scope.now → names_in names.now ≡ instances.port_names c.unit.element

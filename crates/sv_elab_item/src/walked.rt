@@ -18,10 +18,10 @@ use std::alloc::Global;
 use sv_elab_connect::{connections_fit, connections_stand};
 use sv_elab_object::known_stand;
 use sv_elab_parts::{SoFar, guarded_adding};
-use sv_elab_unit::{port_names, ports_of};
+use sv_elab_unit::{Units, port_names, ports_of};
 use sv_elab_walk::{Inst, Seen, Walked, around_unit, seen_in};
 use sv_names::{Around, Checked, Refusal, answer, same_bytes};
-use sv_tree::{Connection, Description, ImpliedType, Item, Name};
+use sv_tree::{Connection, ImpliedType, Item, Name};
 
 // ---- where it stands
 
@@ -109,7 +109,7 @@ fn add_inst(alloc: Global, around: &Around, inst: &Inst, so_far: &mut SoFar) -> 
 /// Puts an item of an instance, behind so many blocks of its unit, behind what stands so far.
 fn meet(
     alloc: Global,
-    units: &[Description],
+    units: &Units,
     around: &Around,
     inst: &Inst,
     made: u32,
@@ -170,7 +170,7 @@ fn connect(
 /// Puts what is met in an instance behind what stands so far. E44: the instance that passes the limit.
 fn add_step(
     alloc: Global,
-    units: &[Description],
+    units: &Units,
     around: &Around,
     step: &Walked,
     so_far: &mut SoFar,
@@ -191,7 +191,7 @@ fn add_step(
 /// Puts what is met on the walk behind what stands so far.
 pub(crate) fn add_walked<'f>(
     alloc: Global,
-    units: &[Description],
+    units: &Units,
     files: &'f Around<'f>,
     step: &'f Walked,
     so_far: &mut SoFar,

@@ -7,6 +7,7 @@ ghost use Rattle.sv_names.specs.Design as design;
 ghost use Rattle.sv_elab_parts.specs.Adding.{so_far_in};
 
 use std::alloc::Global;
+use sv_elab_drives::Drives;
 use sv_flat::{Class, Clocking, Object, Process, Routine};
 use sv_names::Path;
 use sv_value::{NoMemory, Place, Seq};
@@ -29,7 +30,7 @@ pub struct SoFar {
     /// Clocking blocks.
     pub clockings: Seq<Clocking>,
     /// The nets that are driven, each as often as it has drivers.
-    pub drives: Seq<Path>,
+    pub drives: Drives,
     /// The paths of the classes.
     pub class_paths: Seq<Path>,
     /// The paths of the subroutines.
@@ -55,7 +56,7 @@ impl SoFar {
             subroutines: Seq::new(alloc),
             routines,
             clockings: Seq::new(alloc),
-            drives: Seq::new(alloc),
+            drives: Drives::new(alloc),
             class_paths: Seq::new(alloc),
             subroutine_paths: Seq::new(alloc),
             clocking_paths: Seq::new(alloc),

@@ -1,8 +1,7 @@
--- Units by their names, one description after another.
-use Rattle.std.proofs.Common.{◌≡◌, ℕ, Bool, true, false, List, ◌∷◌, Option, Some, None, refl, sym, ap, ◌∙◌, if◌then◌else◌}
+-- Units, one description after another.
+use Rattle.std.proofs.Common.{◌≡◌, List, ◌∷◌, Option, Some, None, refl, sym, ap, ◌∙◌}
 use Rattle.sv_tree.specs.Descriptions as tree
-use Rattle.sv_names.specs.Instances.{Definition, definitions, name_of, first_named, definition_named}
-use Rattle.sv_names.specs.Types.{same_bytes}
+use Rattle.sv_names.specs.Instances.{Definition, definitions}
 use Rattle.sv_elab_unit.specs.Definitions.{definition_of}
 
 -- a unit, where there is one, before others
@@ -23,19 +22,3 @@ without d us is = definitions_is d us ∙ ap (λ (o : Option Definition). before
 pub with_first : (d : tree.Description) (u : Definition) (us : List tree.Description) → Some u ≡ definition_of d
     → definitions (d ∷ us) ≡ u ∷ definitions us
 with_first d u us is = definitions_is d us ∙ ap (λ (o : Option Definition). before o (definitions us)) (sym is)
-
-pub no_unit : (x : List ℕ) (d : tree.Description) (us : List tree.Description) → None ≡ definition_of d
-    → definition_named x us ≡ definition_named x (d ∷ us)
-no_unit x d us is = sym (ap (first_named x) (without d us is))
-
-pub named_unit : (x : List ℕ) (d : tree.Description) (u : Definition) (us : List tree.Description) → Some u ≡ definition_of d
-    → same_bytes x (name_of u).text ≡ true → Some u ≡ definition_named x (d ∷ us)
-named_unit x d u us is same =
-    sym (ap (first_named x) (with_first d u us is)
-    ∙ ap (λ (b : Bool). if b then Some u else first_named x (definitions us)) same)
-
-pub other_unit : (x : List ℕ) (d : tree.Description) (u : Definition) (us : List tree.Description) → Some u ≡ definition_of d
-    → same_bytes x (name_of u).text ≡ false → definition_named x us ≡ definition_named x (d ∷ us)
-other_unit x d u us is other =
-    sym (ap (first_named x) (with_first d u us is)
-    ∙ ap (λ (b : Bool). if b then Some u else first_named x (definitions us)) other)

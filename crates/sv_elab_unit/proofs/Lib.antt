@@ -1,4 +1,5 @@
 pub mod DefinitionLaws
+pub mod UnitLaws
 pub mod UsedLaws
 pub mod RootLaws
 pub mod ListLaws

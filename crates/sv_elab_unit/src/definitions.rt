@@ -1,11 +1,9 @@
-// Modules and programs by their names (IEEE 1800-2017, 23.2 and 24.3).
-ghost use Rattle.std.specs.Prelude.{◌≡◌, map, option_map};
+// Modules and programs (IEEE 1800-2017, 23.2 and 24.3).
+ghost use Rattle.std.specs.Prelude.{◌≡◌, option_map};
 ghost use Rattle.sv_tree.specs.UnitView.{description};
-ghost use Rattle.sv_names.specs.Instances as instances;
 ghost use Rattle.sv_elab_unit.specs.Definitions as definitions;
 ghost use Rattle.sv_elab_unit.specs.Definitions.{definition_in};
 
-use sv_names::same_bytes;
 use sv_tree::{Description, DesignElement};
 
 /// A module or a program.
@@ -31,24 +29,5 @@ pub(crate) fn definition_of<'a>(one: &'a Description) -> Option<Definition<'a>>
             element,
         }),
         Description::Item(_) => None,
-    }
-}
-
-/// The first module or program of a name.
-#[tactic(auto, using(crate::proofs::DefinitionLaws::named_unit, crate::proofs::DefinitionLaws::other_unit, crate::proofs::DefinitionLaws::no_unit))]
-pub fn definition_named<'a>(name: &[u8], all: &'a [Description]) -> Option<Definition<'a>>
-    ensures { option_map definition_in result ≡ instances.definition_named name.now (map description all.now) }
-{
-    match all {
-        [] => None,
-        [one, rest @ ..] => match definition_of(one) {
-            None => definition_named(name, rest),
-            Some(unit) => {
-                if same_bytes(name, unit.element.name.text.bytes()) {
-                    return Some(unit);
-                }
-                definition_named(name, rest)
-            }
-        },
     }
 }

@@ -7,7 +7,8 @@ ghost use Rattle.sv_names.specs.Types.{among};
 ghost use Rattle.sv_elab_unit.specs.Definitions.{definition_in, names_in};
 ghost use Rattle.sv_elab_unit.specs.Roots.{roots_behind};
 
-use crate::definitions::{Definition, definition_named, definition_of};
+use crate::definitions::{Definition, definition_of};
+use crate::units::Units;
 use crate::used::used_names;
 use std::alloc::Global;
 use sv_names::{NameSet, same_bytes};
@@ -95,12 +96,12 @@ fn unused<'a>(alloc: Global, all: &'a [Description]) -> Result<Seq<Definition<'a
 fn only_named<'a>(
     alloc: Global,
     name: &[u8],
-    all: &'a [Description],
+    units: &Units<'a>,
 ) -> Result<Seq<Definition<'a>>, NoMemory>
-    ensures { IfOk result (λ us. map definition_in us ≡ instances.roots (map description all.now) (Some name.now)) }
+    ensures { IfOk result (λ us. map definition_in us ≡ instances.roots (map description units.now) (Some name.now)) }
 {
     let mut list = Seq::new(alloc);
-    match definition_named(name, all) {
+    match units.named(name) {
         None => Ok(list),
         Some(unit) => {
             list.push(unit)?;
@@ -112,14 +113,14 @@ fn only_named<'a>(
 /// The units that the design begins with: the one that is named, or those that are nowhere instantiated.
 pub fn roots<'a>(
     alloc: Global,
-    all: &'a [Description],
+    units: &Units<'a>,
     top: Option<&[u8]>,
 ) -> Result<Seq<Definition<'a>>, NoMemory>
     ensures { IfOk result (λ us. map definition_in us
-        ≡ instances.roots (map description all.now) (option_map (λ x. x.now) top.entry)) }
+        ≡ instances.roots (map description units.now) (option_map (λ x. x.now) top.entry)) }
 {
     match top {
-        None => unused(alloc, all),
-        Some(name) => only_named(alloc, name, all),
+        None => unused(alloc, units.all()),
+        Some(name) => only_named(alloc, name, units),
     }
 }

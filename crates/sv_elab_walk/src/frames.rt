@@ -10,9 +10,9 @@ ghost use Rattle.sv_elab_walk.specs.Insts.{inst_in};
 use crate::instance::Inst;
 use std::rc::Rc;
 use sv_elab_flow::after;
-use sv_elab_unit::{Definition, definition_named, is_among};
+use sv_elab_unit::{Definition, Units, is_among};
 use sv_names::Around;
-use sv_tree::{Connection, Description, Instance, Item, Procedure};
+use sv_tree::{Connection, Instance, Item, Procedure};
 use sv_value::NoMemory;
 
 /// Instances of one item.
@@ -96,7 +96,7 @@ pub(crate) fn blocks_behind(around: &Around, before: u32, one: &Item) -> Result<
 }
 
 /// The instances of an item: none where it names no unit, or one that contains itself.
-pub(crate) fn instances_of<'t>(units: &'t [Description], of: &Inst<'t>, one: &'t Item) -> Listed<'t>
+pub(crate) fn instances_of<'t>(units: &Units<'t>, of: &Inst<'t>, one: &'t Item) -> Listed<'t>
     ensures { (files : what_stands_around) (go : instances.Inst → instances.Walk) (b : ℕ)
         → instances.item_walk (map description units.now) files go (inst_in of.now) b (item one.now)
         ≡ instances.meets (instances.Meet (inst_in of.now) b (item one.now)) (instances.children (map description units.now) files go
@@ -111,7 +111,7 @@ pub(crate) fn instances_of<'t>(units: &'t [Description], of: &Inst<'t>, one: &'t
         return none;
     };
     let name = all.of.text.bytes();
-    match definition_named(name, units) {
+    match units.named(name) {
         None => none,
         Some(unit) => {
             if is_among(name, of.chain.as_slice()) {

@@ -24,7 +24,7 @@ use sv_elab_declare::{GivenValue, InstanceBody, add_files, add_unit};
 use sv_elab_head::settled_unit;
 use sv_elab_scope::{Entry, Group, twice};
 use sv_elab_signal::within as named_within;
-use sv_elab_unit::{Definition, param_names};
+use sv_elab_unit::{Definition, Units, param_names};
 use sv_names::{Around, Checked, Path, and_guard};
 use sv_tree::{Connection, Description, DesignElement, ImpliedType, Instance, Item};
 use sv_value::{NoMemory, Place, Seq, Text};
@@ -33,7 +33,7 @@ use sv_value::{NoMemory, Place, Seq, Text};
 #[derive(Clone, Copy)]
 pub(crate) struct Ground<'f, 't> {
     /// The descriptions.
-    pub units: &'t [Description],
+    pub units: &'f Units<'t>,
     /// What stands around the units.
     pub files: &'f Around<'f>,
 }
@@ -179,7 +179,7 @@ fn inst_of<'t>(
     let around = around_unit(ground.files, unit, path.as_slice());
     let body = body_of(
         alloc,
-        ground.units,
+        ground.units.all(),
         &around,
         path.as_slice(),
         unit.element,

@@ -13,8 +13,9 @@ use crate::instance::{Inst, Walked};
 use crate::making::{Ground, child};
 use std::alloc::Global;
 use std::rc::Rc;
+use sv_elab_unit::Units;
 use sv_names::Around;
-use sv_tree::{Description, Item};
+use sv_tree::Item;
 use sv_value::{NoMemory, Seq};
 
 /// Enters an instance: it is met, and then its items are left.
@@ -49,7 +50,7 @@ pub(crate) fn enter<'t>(
 /// Meets an item: then its instances are left.
 fn meet_item<'t>(
     around: &Around,
-    units: &'t [Description],
+    units: &Units<'t>,
     frame: Frame<'t>,
     one: &'t Item,
     rest: &'t [Item],
@@ -92,7 +93,7 @@ fn meet_item<'t>(
 /// One turn at an instance: the instance in it that comes next, or an item is met, or it has nothing left.
 fn turn<'t>(
     around: &Around,
-    units: &'t [Description],
+    units: &Units<'t>,
     frame: Frame<'t>,
     walked: &mut Seq<Walked<'t>>,
     frames: &mut Vec<Frame<'t>>,
@@ -132,7 +133,7 @@ fn turn<'t>(
 /// The instance that comes next; the items before it are met.
 pub(crate) fn advance<'t>(
     around: &Around,
-    units: &'t [Description],
+    units: &Units<'t>,
     walked: &mut Seq<Walked<'t>>,
     frames: &mut Vec<Frame<'t>>,
 ) -> Result<Option<Next<'t>>, NoMemory>

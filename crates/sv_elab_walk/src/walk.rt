@@ -13,9 +13,8 @@ use crate::making::{Ground, root_inst};
 use crate::steps::{advance, enter, enter_next};
 use std::alloc::Global;
 use std::rc::Rc;
-use sv_elab_unit::{Definition, roots};
+use sv_elab_unit::{Definition, Units, roots};
 use sv_names::Around;
-use sv_tree::Description;
 use sv_value::{NoMemory, Seq};
 
 /// The most instances that a design has.
@@ -81,7 +80,7 @@ fn walk_roots<'t>(
 /// of all that are nowhere instantiated.
 pub fn walked<'f, 't>(
     alloc: Global,
-    units: &'t [Description],
+    units: &'f Units<'t>,
     files: &'f Around<'f>,
     top: Option<&[u8]>,
 ) -> Result<Seq<Walked<'t>>, NoMemory>
@@ -90,6 +89,6 @@ pub fn walked<'f, 't>(
 {
     let ground = Ground { units, files };
     let all = roots(alloc, units, top)?;
-    let most = units.len() as u128 + 1;
+    let most = units.all().len() as u128 + 1;
     walk_roots(alloc, &ground, most, all.as_slice(), MOST_INSTANCES)
 }

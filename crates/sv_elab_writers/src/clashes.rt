@@ -7,11 +7,11 @@ ghost use Rattle.sv_elab_writers.specs.Laws as laws;
 ghost use Rattle.sv_elab_writers.specs.Marks.{HasWrites};
 ghost use Rattle.sv_elab_writers.specs.Views.{writer_in, write_in, initialized_in, Written};
 
-use crate::marks::{Marked, mark_of, marked};
+use crate::marks::{Marked, marked};
 use crate::writes::Write;
 use crate::{Initialized, Writer};
 use std::alloc::Global;
-use sv_names::{Checked, Fault, and_guard, same_path, same_place};
+use sv_names::{Checked, Fault, and_guard, mark_of, same_path, same_place};
 use sv_value::{NoMemory, Place, Seq, Text};
 
 /// What two writes of one object may not be.

@@ -2,7 +2,6 @@
 ghost use Rattle.std.specs.Prelude.{◌≡◌, ◌≢◌, ◌++◌, ◌∷◌, [], ℕ, List, Some, map, IfOk, OnOk};
 ghost use Rattle.std.specs.Ordering.{nat_cmp};
 ghost use Rattle.std.specs.BTreeMap.{get};
-ghost use Rattle.sv_names.specs.Marks.{mixed, with_name, with_path};
 ghost use Rattle.sv_elab_writers.specs.Marks.{writes_in, HasWrites};
 ghost use Rattle.sv_elab_writers.specs.Views.{write_in};
 ghost use Rattle.sv_elab_writers.specs.declared.writes.Write.{Write as WriteValue};
@@ -10,40 +9,11 @@ ghost use Rattle.sv_elab_writers.specs.declared.writes.Write.{Write as WriteValu
 use crate::writes::Write;
 use std::alloc::Global;
 use std::collections::BTreeMap;
-use sv_value::{NoMemory, Seq, Text};
+use sv_names::mark_of;
+use sv_value::{NoMemory, Seq};
 
 /// Writes at the marks of their objects.
 pub(crate) type Marked<'a> = BTreeMap<u64, Seq<Write<'a>>>;
-
-/// A mark with a byte behind it.
-fn mixed(mark: u64, byte: u8) -> u64
-    ensures { result ≡ mixed mark byte }
-{
-    mark.wrapping_mul(1_099_511_628_211)
-        .wrapping_add(byte as u64)
-}
-
-/// A mark with a name behind it.
-fn with_name(mark: u64, name: &[u8]) -> u64
-    ensures { result ≡ with_name mark name.now }
-{
-    let mut mark = mark;
-    for byte in name {
-        mark = mixed(mark, *byte);
-    }
-    mark
-}
-
-/// The mark of a path.
-pub(crate) fn mark_of(path: &[Text]) -> u64
-    ensures { result ≡ with_path 0 path.now }
-{
-    let mut mark = 0;
-    for name in path {
-        mark = mixed(with_name(mark, name.bytes()), 0);
-    }
-    mark
-}
 
 /// A write comes to a mark, behind those that are there.
 fn put_write<'a>(

@@ -1,12 +1,12 @@
 -- Who descends from a process, and what a tree of processes keeps when these are over.
-use Rattle.std.proofs.Common.{◌≡◌, ℕ, zero, suc, ◌<◌, Bool, true, false, List, [], ◌∷◌, Option, Some, None, length, slice_get, refl, sym, ap, ◌∙◌, arith, ◌⊎◌, inl, inr}
+use Rattle.std.proofs.Common.{◌≡◌, ℕ, zero, suc, ◌<◌, ◌≤◌, Bool, true, false, List, [], ◌∷◌, Option, Some, None, length, slice_get, refl, sym, ap, ◌∙◌, arith, ◌⊎◌, inl, inr}
 use Rattle.std.specs.Prelude.{◌==◌, ◌||◌, ◌&&◌, not}
 use Rattle.sv_value.specs.declared.number.ProcessId.{ProcessId}
 use Rattle.sv_flat.specs.Effects.{is_in}
 use Rattle.sv_flat.specs.Effects.Ends.{is_running}
 use Rattle.sv_fork.specs.Tree.{Join, Member, IsTree, all_ended_in, descendants_in, descends_in, ended_in, is_over_in, join_in, joins_in, member_test, parent_of}
 use Rattle.sv_fork.proofs.PlaceLaws.{some_same, none_some, both, not_true, by_option, get_within}
-use Rattle.sv_fork.proofs.NumberLaws.{filter_has, filter_passed, same_number}
+use Rattle.sv_fork.proofs.NumberLaws.{filter_has, filter_passed, other_number, same_number}
 use Rattle.sv_fork.proofs.TreeLaws.{joins_same, parent_there, over_one, length-changed, ended_one, got_ended}
 
 -- ---- who descends
@@ -63,6 +63,23 @@ descends_not ms p c is = of_fuel (length ms)
     of_fuel : (n : ℕ) → descends_in n ms (Some c) p ≡ false
     of_fuel zero = refl
     of_fuel (suc n) = ap (λ o. is_running o p || descends_in n ms o p) is ∙ none_left n
+
+-- who has no greater number descends from none
+pub descends_low : (ms : List Member) (p : ProcessId) → IsTree ms → (a : ℕ) (q : ProcessId) → q.0 ≤ p.0 → descends_in a ms (Some q) p ≡ false
+descends_low ms p t zero q l = refl
+descends_low ms p t (suc a) q l = of_parent (descends_low ms p t a) (parent_of (slice_get ms q.0)) refl
+  where
+    of_parent : ((r : ProcessId) → r.0 ≤ p.0 → descends_in a ms (Some r) p ≡ false) → (o : Option ProcessId) → parent_of (slice_get ms q.0) ≡ o
+        → (is_running o p || descends_in a ms o p) ≡ false
+    of_parent later None is = none_left a
+      where
+        none_left : (n : ℕ) → descends_in n ms None p ≡ false
+        none_left zero = refl
+        none_left (suc n) = refl
+    of_parent later (Some r) is =
+        let there = parent_there ms q.0 r is in
+        let below : r.0 < q.0 = t.parents q.0 there.0 r there.1 (sym (ap parent_of there.1) ∙ is) in
+        ap (λ b. b || descends_in a ms (Some r) p) (other_number r.0 p.0 (λ e. omega (arith, below, l, e))) ∙ later r (omega (arith, below, l))
 
 -- ---- all living descendants are over
 

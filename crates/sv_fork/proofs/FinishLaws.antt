@@ -2,10 +2,12 @@
 use Rattle.std.proofs.Common.{◌≡◌, ℕ, ◌<◌, Bool, true, false, List, [], ◌∷◌, Option, Some, None, length, slice_get, slice_set, refl, sym, ap, ◌∙◌, subst, arith, ◌⊎◌, inl, inr, ⊎_elim}
 use Rattle.std.proofs.lemmas.Bool.{cases_eq}
 use Rattle.sv_value.specs.declared.number.ProcessId.{ProcessId}
-use Rattle.sv_fork.specs.Tree.{Member, IsTree, all_ready_in, changed_in, ended_in, join_in, joined_in, joins_in, listed, member_test, parent_of, ready_in}
+use Rattle.sv_fork.specs.Living.{OverLess}
+use Rattle.sv_fork.specs.Tree.{Join, Member, IsTree, all_ready_in, changed_in, ended_in, is_over_in, join_in, joined_in, joins_in, listed, member_test, parent_of, ready_in}
 use Rattle.sv_fork.proofs.PlaceLaws.{some_same, none_some, both, by_option, get_set, get_within}
 use Rattle.sv_fork.proofs.NumberLaws.{filter_none, filter_one}
-use Rattle.sv_fork.proofs.TreeLaws.{changed_is, joins_less, Kin, kin_of, tree_by, set_split, over_set, kin_set, over_one, ready_one, ended_joins, tree_over}
+use Rattle.sv_fork.proofs.TreeLaws.{changed_is, joins_less, Kin, kin_of, tree_by, set_split, over_set, kin_set, over_one, ready_one, ended_joins, over_ended, tree_over}
+use Rattle.sv_fork.proofs.LivingLaws.{over_changed}
 
 -- ---- a process is over, and its parent goes on
 
@@ -45,10 +47,11 @@ joined_one us r is h = of_member (by_option (slice_get us r.0))
 pub record Finished (ms : List Member) (p : ProcessId) (o : Option ProcessId) : Type 0 where
   pub joined : joined_in (ended_in p ms) ≡ listed o
   pub tree : IsTree (all_ready_in (listed o) (ended_in p ms))
+  pub over : OverLess ms (all_ready_in (listed o) (ended_in p ms))
 
 -- nothing is left to wait for
 finished_still : (ms : List Member) (p : ProcessId) (us : List Member) → ended_in p ms ≡ us → IsTree us → Finished ms p None
-finished_still ms p us is t = record { joined = ap joined_in is ∙ joined_none us t.waiting; tree = subst IsTree (sym is) t }
+finished_still ms p us is t = record { joined = ap joined_in is ∙ joined_none us t.waiting; tree = subst IsTree (sym is) t; over = over_ended ms p }
 
 -- there is no such process, or none that forked it
 pub finished_none : (ms : List Member) (p : ProcessId) → IsTree ms → None ≡ parent_of (slice_get (ended_in p ms) p.0) → Finished ms p None
@@ -122,6 +125,7 @@ module _ (ms : List Member) (p r : ProcessId) (t : IsTree ms) (h : Some r ≡ pa
       record {
         joined = ap joined_in (sym left_is) ∙ joined_one left r complete others;
         tree = subst (λ (vs : List Member). IsTree (ready_in r vs)) left_is (of_cases (by_option (slice_get left r.0)));
+        over = record { each = λ c e. (over_changed (ended_in p ms) ready_one r lives).each c ((over_ended ms p).each c e) };
       }
     where
       complete : joins_in left (join_in (slice_get left r.0)) ≡ true
@@ -129,6 +133,18 @@ module _ (ms : List Member) (p r : ProcessId) (t : IsTree ms) (h : Some r ≡ pa
 
       kin : Kin left
       kin = kin_set ms p known.member (over_one known.member) (kin_of ms t) known.here refl (λ j e. none_some e) (λ j c e l. none_some e)
+
+      -- who waits is not over
+      lives_one : (o : Option Member) → slice_get left r.0 ≡ o → joins_in left (join_in o) ≡ true → member_test (λ m. m.over) o ≡ false
+      lives_one None g e = refl
+      lives_one (Some n) g e = of_join n.join refl e
+        where
+          of_join : (j : Option Join) → n.join ≡ j → joins_in left j ≡ true → n.over ≡ false
+          of_join None is e = both e refl
+          of_join (Some j) is e = kin.over r.0 n j g is
+
+      lives : is_over_in (ended_in p ms) r ≡ false
+      lives = ap (λ (vs : List Member). is_over_in vs r) (sym left_is) ∙ lives_one (slice_get left r.0) refl complete
 
       of_cases : ((n : Member) × (slice_get left r.0 ≡ Some n)) ⊎ (slice_get left r.0 ≡ None) → IsTree (ready_in r left)
       of_cases (inr g) = both complete (ap (λ o. joins_in left (join_in o)) g)

@@ -1,7 +1,7 @@
 mod PlaceLaws
 mod NumberLaws
 pub mod TreeLaws
+mod LivingLaws
 pub mod FinishLaws
 pub mod DescentLaws
-mod FamilyLaws
 pub mod ConfigLaws

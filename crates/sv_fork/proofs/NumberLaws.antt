@@ -1,9 +1,10 @@
 -- The processes that pass a test, by number.
-use Rattle.std.proofs.Common.{◌≡◌, ℕ, zero, suc, ◌+◌, ◌<◌, ◌≤◌, Bool, true, false, cond, List, [], ◌∷◌, length, filter, drop, refl, ap, ◌∙◌, arith, ⊎_elim}
+use Rattle.std.proofs.Common.{◌≡◌, ℕ, zero, suc, ◌+◌, ◌<◌, ◌≤◌, Bool, true, false, cond, List, [], ◌∷◌, ◌++◌, length, filter, drop, refl, sym, ap, ◌∙◌, append_assoc, arith, ⊎_elim}
 use Rattle.std.specs.Prelude.{◌==◌, ◌||◌, ◌&&◌}
 use Rattle.std.specs.List.{list_any, list_all}
 use Rattle.std.proofs.lemmas.Bool.{cases_eq}
 use Rattle.std.proofs.lemmas.Bool.Decides.{nat_tests}
+use Rattle.std.proofs.lemmas.List.{append-nil}
 use Rattle.sv_value.specs.declared.number.ProcessId.{ProcessId}
 use Rattle.sv_flat.specs.Config.{numbered_from}
 use Rattle.sv_flat.specs.Effects.{is_in}
@@ -27,18 +28,22 @@ rest_is n [] k j e h = absurd (omega arith)
 rest_is n (x ∷ xs) zero j e h = refl
 rest_is n (x ∷ xs) (suc k) j e h = rest_is (n + 1) xs k j (omega (arith, e)) (omega arith)
 
-pub filter_step : {A : Type 0} (t : ProcessId → Bool) (xs : List A) (k : ℕ) → k < length xs
-    → filter t (numbered_from k (drop k xs))
-    ≡ cond (t (record { 0 = k })) (record { 0 = k } ∷ filter t (numbered_from (k + 1) (drop (k + 1) xs))) (filter t (numbered_from (k + 1) (drop (k + 1) xs)))
-filter_step t xs k h =
+-- one number more, and those that are still to come
+pub numbers_step : {A : Type 0} (xs : List A) (k : ℕ) (ps more : List ProcessId) → k < length xs → more ≡ ps ++ record { 0 = k } ∷ []
+    → ps ++ numbered_from k (drop k xs) ≡ numbered_from 0 xs → more ++ numbered_from (k + 1) (drop (k + 1) xs) ≡ numbered_from 0 xs
+numbers_step xs k ps more h is all =
     let e : suc k ≡ k + 1 = omega arith in
-    ap (filter t) (rest_is 0 xs k k (omega arith) h ∙ ap (λ i. record { 0 = k } ∷ numbered_from (k + 1) (drop i xs)) e)
+    ap (λ qs. qs ++ numbered_from (k + 1) (drop (k + 1) xs)) is ∙ append_assoc ps (record { 0 = k } ∷ []) (numbered_from (k + 1) (drop (k + 1) xs))
+    ∙ ap (λ qs. ps ++ qs) (sym (rest_is 0 xs k k (omega arith) h ∙ ap (λ i. record { 0 = k } ∷ numbered_from (k + 1) (drop i xs)) e)) ∙ all
 
-pub filter_done : {A : Type 0} (t : ProcessId → Bool) (n : ℕ) (xs : List A) (k : ℕ) → length xs ≤ k → filter t (numbered_from n (drop k xs)) ≡ []
-filter_done t n [] zero h = refl
-filter_done t n [] (suc k) h = refl
-filter_done t n (x ∷ xs) zero h = absurd (omega arith)
-filter_done t n (x ∷ xs) (suc k) h = filter_done t n xs k (omega arith)
+none_left : {A : Type 0} (n : ℕ) (xs : List A) (k : ℕ) → length xs ≤ k → numbered_from n (drop k xs) ≡ []
+none_left n [] zero h = refl
+none_left n [] (suc k) h = refl
+none_left n (x ∷ xs) zero h = absurd (omega arith)
+none_left n (x ∷ xs) (suc k) h = none_left n xs k (omega arith)
+
+pub numbers_done : {A : Type 0} (xs : List A) (k : ℕ) (ps : List ProcessId) → length xs ≤ k → ps ++ numbered_from k (drop k xs) ≡ numbered_from 0 xs → ps ≡ numbered_from 0 xs
+numbers_done xs k ps h all = sym (ap (λ qs. ps ++ qs) (none_left k xs k h) ∙ append-nil ps) ∙ all
 
 -- ---- who is among those that pass
 

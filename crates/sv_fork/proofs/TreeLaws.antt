@@ -8,6 +8,7 @@ use Rattle.sv_value.specs.declared.schedule.Side.{Side}
 use Rattle.sv_flat.specs.Effects.{is_in}
 use Rattle.sv_flat.specs.Effects.Ends.{is_running}
 use Rattle.sv_fork.specs.Tree.{Join, Member, IsTree, awaiting_in, changed_in, child_in, ended_in, is_awaited, is_awaited_by, is_living_child, is_over_in, join_in, joins_in, member_test, parent_of, with_root}
+use Rattle.sv_fork.specs.Living.{OverLess}
 use Rattle.sv_fork.proofs.PlaceLaws.{some_same, none_some, both, by_option, get_front, get_split, get_set, get_set-other, get_past, get_there, get_within, length-set}
 use Rattle.sv_fork.proofs.NumberLaws.{all_less, all_passed, all_same, any_less, any_same, number_same, same_number}
 
@@ -21,10 +22,6 @@ pub changed_past : (ms : List Member) (f : Member → Member) (p : ProcessId) �
 changed_past ms f p h = sym (ap (λ o. changed_in o f p ms) (get_past ms p.0 h))
 
 -- ---- joins
-
--- who is over in one list is over in another one
-pub record OverLess (us ms : List Member) : Type 0 where
-  pub each : (c : ProcessId) → is_over_in us c ≡ true → is_over_in ms c ≡ true
 
 pub joins_less : (us ms : List Member) (o : Option Join) → OverLess us ms → joins_in ms o ≡ false → joins_in us o ≡ false
 joins_less us ms None h e = refl
@@ -199,18 +196,19 @@ tree_set ms p m x t here same lives own waits = tree_by (slice_set ms p.0 x) (ki
 
 -- ---- a process waits
 
--- a living child is not over, and its parent is this
-living_over : (ms : List Member) (p c : ProcessId) → is_living_child ms p c ≡ true → is_over_in ms c ≡ false
-living_over ms p c h = of_member (slice_get ms c.0) h
+-- who passes a test of living processes is not over
+pub tested_over : (f : Member → Bool) (o : Option Member) → member_test (λ m. f m && not m.over) o ≡ true → member_test (λ m. m.over) o ≡ false
+tested_over f None e = both e refl
+tested_over f (Some m) e = of_both (f m) m.over e
   where
     of_both : (a b : Bool) → (a && not b) ≡ true → b ≡ false
     of_both true false e = refl
     of_both true true e = sym e
     of_both false b e = both e refl
 
-    of_member : (o : Option Member) → member_test (λ m. is_running m.parent p && not m.over) o ≡ true → member_test (λ m. m.over) o ≡ false
-    of_member None e = both e refl
-    of_member (Some m) e = of_both (is_running m.parent p) m.over e
+-- a living child is not over, and its parent is this
+pub living_over : (ms : List Member) (p c : ProcessId) → is_living_child ms p c ≡ true → is_over_in ms c ≡ false
+living_over ms p c h = tested_over (λ m. is_running m.parent p) (slice_get ms c.0) h
 
 living_parent : (ms : List Member) (p c : ProcessId) → is_living_child ms p c ≡ true → parent_of (slice_get ms c.0) ≡ Some p
 living_parent ms p c h = of_member (slice_get ms c.0) h
@@ -387,6 +385,15 @@ got_ended ms p q = of_cases (by_option (slice_get ms p.0))
     of_cases : ((m : Member) × (slice_get ms p.0 ≡ Some m)) ⊎ (slice_get ms p.0 ≡ None) → slice_get (ended_in p ms) q ≡ ended_one (q == p.0) (slice_get ms q)
     of_cases (inr g) = ap (λ o. slice_get (changed_in o over_one p ms) q) g ∙ past (q == p.0) refl g
     of_cases (inl g) = ap (λ o. slice_get (changed_in o over_one p ms) q) g.1 ∙ there g.0 g.1 (q == p.0) refl
+
+-- who was over is over still
+pub over_ended : (ms : List Member) (p : ProcessId) → OverLess ms (ended_in p ms)
+over_ended ms p = record { each = λ c e. ap (member_test (λ n. n.over)) (got_ended ms p c.0) ∙ of_member (c.0 == p.0) (slice_get ms c.0) e }
+  where
+    of_member : (b : Bool) (o : Option Member) → member_test (λ n. n.over) o ≡ true → member_test (λ n. n.over) (ended_one b o) ≡ true
+    of_member true None e = e
+    of_member true (Some m) e = refl
+    of_member false o e = e
 
 -- ---- how many there are
 

@@ -1,4 +1,4 @@
 -- ---- the processes of a run
 pub mod Tree
--- ---- how descendants are found
-pub mod Marks
+-- ---- where the living ones are found
+pub mod Living

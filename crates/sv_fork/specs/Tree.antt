@@ -148,6 +148,10 @@ is_awaited ms p = is_awaited_by ms (parent_of (slice_get ms p.0))
 abbrev pub is_living_child : List Member → ProcessId → ProcessId → Bool
 is_living_child ms p q = member_test (λ m. is_running m.parent p && not m.over) (slice_get ms q.0)
 
+-- a living descendant of a process
+abbrev pub is_living_descendant : List Member → ProcessId → ProcessId → Bool
+is_living_descendant ms p q = member_test (λ m. descends_in (length ms) ms (Some q) p && not m.over) (slice_get ms q.0)
+
 -- parents come before their children, a process that is over waits for none, others for children of their own; no join is complete
 pub record IsTree (ms : List Member) : Type 0 where
   pub parents : (q : ℕ) (m : Member) (p : ProcessId) → slice_get ms q ≡ Some m → m.parent ≡ Some p → p.0 < q

@@ -1,6 +1,7 @@
 // The processes of a run, as a list (IEEE 1800-2017, 9.3.2 and 9.6.3).
-ghost use Rattle.std.specs.Prelude.{◌≡◌, ◌∷◌, [], Some, slice_get, length};
+ghost use Rattle.std.specs.Prelude.{◌≡◌, Some, slice_get, length};
 ghost use Rattle.std.specs.List.{list_all, list_any};
+ghost use Rattle.sv_fork.specs.Living.{OverLess};
 ghost use Rattle.sv_fork.specs.Tree as tree;
 ghost use Rattle.sv_fork.specs.Tree.{all_ready_in, awaiting_in, ended_in, is_awaited, is_over_in, join_in, joined_in, joins_in, listed, parent_of, IsTree};
 
@@ -101,6 +102,7 @@ pub(crate) fn finish_in(members: &mut Vec<Member>, process: ProcessId) -> Option
     ensures joined { joined_in (ended_in process members.old.items) ≡ listed result }
     ensures new { members.new.items ≡ all_ready_in (listed result) (ended_in process members.old.items) }
     ensures tree { IsTree members.new.items }
+    ensures over { OverLess members.old.items members.new.items }
     ensures count { length members.new.items ≡ length members.old.items }
 {
     end_in(members, process);

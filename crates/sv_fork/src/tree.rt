@@ -6,6 +6,7 @@ ghost use Rattle.sv_fork.specs.Tree.{all_ready_in, awaiting_in, descendants_in, 
 
 use crate::family::{descendants_of, living_children_of};
 use crate::join::Join;
+use crate::living::Living;
 use crate::member::Member;
 use crate::members::{end_in, finish_in, go_on_in, wait_in};
 use std::alloc::{AllocFailed, Global};
@@ -37,17 +38,19 @@ impl<T: Drop> From<AllocFailed<T>> for StartFault {
 #[derive(Drop)]
 pub struct Tree {
     members: Vec<Member>,
+    living: Living,
 }
 
 impl Model for Tree {
     ghost use Rattle.std.specs.Prelude.{List, length, ◌≤◌, ◌^◌};
+    ghost use Rattle.sv_fork.specs.Living.{HasLiving};
     ghost use Rattle.sv_fork.specs.Tree.{IsTree, Member as Defined};
 
     ghost Value = { List Defined };
 
     ghost view = { λ t. t.members.items };
 
-    ghost invariant = { λ t. (length t.members.items ≤ 2 ^ 18) × IsTree t.members.items };
+    ghost invariant = { λ t. (length t.members.items ≤ 2 ^ 18) × IsTree t.members.items × HasLiving t.members.items t.living };
 }
 
 impl Tree {
@@ -57,6 +60,7 @@ impl Tree {
     {
         Tree {
             members: Vec::new(alloc),
+            living: Living::new(alloc),
         }
     }
 
@@ -82,7 +86,9 @@ impl Tree {
         ensures ok { OnOk result (self.new ≡ with_root side self.old) }
         ensures err { OnErr result (self.new ≡ self.old) }
     {
+        let number = ProcessId(self.members.len() as u32);
         self.members.push(Member::new(side, None))?;
+        self.living.add(number);
         Ok(())
     }
 
@@ -100,8 +106,10 @@ impl Tree {
             return Err(StartFault::Full);
         }
         let child = self.members[parent.0 as usize].child(parent);
+        let number = ProcessId(count as u32);
         self.members.push(child)?;
-        Ok(ProcessId(count as u32))
+        self.living.add(number);
+        Ok(number)
     }
 
     /// A process waits until all of these living children are over, or one of them.
@@ -110,6 +118,7 @@ impl Tree {
         requires living { list_all (is_living_child self.old process) children.items ≡ true }
         ensures { self.new ≡ awaiting_in process (record { all = all; children = children.items }) self.old }
     {
+        self.living.revive(self.members.as_slice(), process);
         wait_in(&mut self.members, process, Join::new(all, children));
     }
 
@@ -117,6 +126,7 @@ impl Tree {
     pub fn go_on(&mut self, process: ProcessId)
         ensures { self.new ≡ ready_in process self.old }
     {
+        self.living.revive(self.members.as_slice(), process);
         go_on_in(&mut self.members, process);
     }
 
@@ -125,7 +135,9 @@ impl Tree {
         ensures joined { joined_in (ended_in process self.old) ≡ listed result }
         ensures new { self.new ≡ all_ready_in (listed result) (ended_in process self.old) }
     {
-        finish_in(&mut self.members, process)
+        let told = finish_in(&mut self.members, process);
+        self.living.lose(self.members.as_slice());
+        told
     }
 
     /// A process is over, whose parent waits for no children.
@@ -134,6 +146,7 @@ impl Tree {
         ensures { self.new ≡ ended_in process self.old }
     {
         end_in(&mut self.members, process);
+        self.living.lose(self.members.as_slice());
     }
 
     /// The living children of a process, by number.
@@ -144,13 +157,15 @@ impl Tree {
     ) -> Result<Vec<ProcessId>, NoMemory>
         ensures { IfOk result (λ ps. ps.items ≡ living_children_in self.now process) }
     {
-        living_children_of(alloc, self.members.as_slice(), process)
+        let candidates = self.living.candidates(alloc, self.members.as_slice())?;
+        Ok(living_children_of(self.members.as_slice(), candidates, process))
     }
 
     /// The living descendants of a process, by number.
     pub fn descendants(&self, alloc: Global, process: ProcessId) -> Result<Vec<ProcessId>, NoMemory>
         ensures { IfOk result (λ ps. ps.items ≡ descendants_in self.now process) }
     {
-        descendants_of(alloc, self.members.as_slice(), process)
+        let candidates = self.living.candidates(alloc, self.members.as_slice())?;
+        Ok(descendants_of(self.members.as_slice(), candidates, process))
     }
 }

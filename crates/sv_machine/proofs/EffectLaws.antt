@@ -23,7 +23,6 @@ use Rattle.sv_flat.specs.Process.{ProcessState, Status, Ready, Running, Waiting,
 use Rattle.sv_flat.specs.Config.{Config, process_at, met_fault}
 use Rattle.sv_flat.specs.Effects.Ends.{is_ended}
 use Rattle.sv_flat.specs.Effects.Scheduling.{update_scheduled}
-use Rattle.sv_built.specs.declared.wait.Wait.{Wait}
 use Rattle.sv_built.specs.declared.wait.Wait.TheVariants as wait
 use Rattle.sv_built.specs.Positions.{stmt_at}
 use Rattle.sv_built.specs.Waits.{watches_at}
@@ -34,6 +33,7 @@ use Rattle.sv_sound.proofs.Running.{running_known, runs_calm}
 use Rattle.sv_fork.specs.Tree.{Member, ended_in, is_over_in, join_of, member_of, member_test}
 use Rattle.sv_fork.specs.Tree as tree
 use Rattle.sv_process.specs.Frames.{todos_of}
+use Rattle.sv_sense.specs.declared.waiter.Waiter.{Waiter}
 use Rattle.sv_sense.specs.Sensed.{Covers}
 use Rattle.sv_machine.specs.declared.machine.Machine.{Machine}
 use Rattle.sv_machine.specs.declared.machine.Kept.{Kept}
@@ -173,9 +173,9 @@ module _ (d : Parts) (m : Machine) (c : Config) (h : StandsFor d m c) (p : Proce
           };
         }
 
-    pub watch_tracks : (w : Wait) (scope : Option Name) (n : Machine) → WaitsFor d p w m n → Tracks d n (watching p q (watches_at d w) scope c)
-    watch_tracks w scope n k =
-        let v : ProcessState = record q { latest = Waiting (Watches (watches_at d w) scope) } in
+    pub watch_tracks : (w : Waiter) (n : Machine) → WaitsFor d p w m n → Tracks d n (watching p q (watches_at d w.wait) w.scope c)
+    watch_tracks w n k =
+        let v : ProcessState = record q { latest = Waiting (Watches (watches_at d w.wait) w.scope) } in
         record {
           time = ap (λ (x : Machine). x.time) k.is ∙ ap (λ (x : Picture). x.time) same;
           fault = ap (λ (x : Machine). x.fault) k.is ∙ h.fault;
@@ -264,8 +264,8 @@ module _ (d : Parts) (m : Machine) (c : Config) (h : StandsFor d m c) (p : Proce
           going = λ g. record {
             picture = ap (of_machine d) k.is
                 ∙ (λ i. record (of_machine d m) { running = None; remaining = k.left.remaining i; waiting = map (awaited_at d) (k.waits i) })
-                ∙ (λ i. record (of_machine d m) { running = None; remaining = slice_set (map (todos_of d) m.processes.items) p.0 (body_in d f.body None); waiting = map_set (awaited_at d) m.sense.waits p.0 (Some (wait.Watched p)) i })
-                ∙ (λ i. record (same i) { running = None; remaining = slice_set (same i).remaining p.0 (body_in d f.body None); waiting = slice_set (same i).waiting p.0 (Some (e i)) })
+                ∙ (λ i. record (of_machine d m) { running = None; remaining = slice_set (map (todos_of d) m.processes.items) p.0 (body_in d f.body None); waiting = map_set (awaited_at d) m.sense.waits p.0 (Some (record { wait = wait.Watched p; scope = None })) i })
+                ∙ (λ i. record (same i) { running = None; remaining = slice_set (same i).remaining p.0 (body_in d f.body None); waiting = slice_set (same i).waiting p.0 (Some (record { watches = e i; scope = None })) })
                 ∙ (λ i. record (sym (plain_picture v refl refl (member_stays v refl refl refl refl)) i) { running = None });
             covers = k.covers;
             alive = subst (λ (x : Machine). IsAlive x.tree x.running) (sym k.is) tt;

@@ -35,9 +35,9 @@ use Rattle.sv_flat.specs.Process.{ProcessState, Effect, Spot, Cell, Variable_of,
 use Rattle.sv_flat.specs.Config.{Config, Record, Strobe, process_at, first_process, met_fault}
 use Rattle.sv_flat.specs.Config.{all_made_ready, made_ready}
 use Rattle.sv_flat.specs.Effects.{occurred}
+use Rattle.sv_flat.specs.Effects.Writes.{variable_over}
 use Rattle.sv_flat.specs.Effects.Ends.{all_ended, descendants, ended, joined, living_children}
 use Rattle.sv_flat.specs.Effects.Scheduling.{awaiting, children_from, joining, spawned, started, update_scheduled}
-use Rattle.sv_built.specs.declared.wait.Wait.{Wait}
 use Rattle.sv_built.specs.Built.{IsBuilt, IsBuiltType, IsBuiltProcess}
 use Rattle.sv_built.specs.Positions.{stmt_at}
 use Rattle.sv_built.specs.Waits.{watches_at}
@@ -47,9 +47,10 @@ use Rattle.sv_sound.proofs.Weights.{all_at, map_at, one, one_self, once, not_con
 use Rattle.sv_sound.proofs.Wakes.{change_states}
 use Rattle.sv_sound.proofs.Room.{ones, all_count, count_processes}
 use Rattle.sv_sound.proofs.Occurs.{print_is, strobe_is, resume_is, turn_is, watch_is, update_is, fail_is, finish_is, enter_is, effect_write_is, variable_write_is, end_initial, end_always, end_always_ff, end_always_comb, end_assign, end_port, end_forked, spawn_is, await_is, disable_is}
-use Rattle.sv_sound.proofs.Changes.{await_built, found_at}
+use Rattle.sv_sound.proofs.Changes.{found_at}
 use Rattle.sv_sound.proofs.Running.{running_known, ended_is}
 use Rattle.sv_fork.specs.Tree.{Member, is_awaited, is_awaited_by, member_of, parent_of}
+use Rattle.sv_sense.specs.declared.waiter.Waiter.{Waiter}
 use Rattle.sv_process.specs.Effects.{effect_in}
 use Rattle.sv_process.specs.Effects as effects
 use Rattle.sv_machine.specs.declared.machine.Machine.{Machine}
@@ -170,13 +171,13 @@ module _ (d : Parts) (b : IsBuilt d) (at : Place) (p : ProcessId) (m n : Machine
       is : (s : Spot) → IsPlainSpot s → (c : Config) → StandsFor d m c → occurred d at p (Write s x) c ≡ assigned_in d s x c
       is (Cell o i r) h c a = effect_write_is d none at p c (Cell o i r) tt x
       is Nowhere h c a = effect_write_is d none at p c Nowhere tt x
-      is (Variable_of v i r) h c a = variable_write_is d none at p c (await_built d c a.sound) v i r x
+      is (Variable_of v i r) h c a = variable_write_is d none at p c v i r x
       is s h c a = absurd h
 
       same : (s : Spot) → IsPlainSpot s → (c : Config) → (assigned_in d s x c).records ≡ c.records
-      same (Cell o i r) h c = ap (λ (e : Config). e.records) (change_states d (store_after (Cell o i r) x c.store) c)
-      same Nowhere h c = ap (λ (e : Config). e.records) (change_states d c.store c)
-      same (Variable_of v i r) h c = refl
+      same (Cell o i r) h c = ap (λ (e : Config). e.records) (change_states d (record c.world { store = store_after (Cell o i r) x c.store }) c)
+      same Nowhere h c = ap (λ (e : Config). e.records) (change_states d c.world c)
+      same (Variable_of v i r) h c = ap (λ (e : Config). e.records) (change_states d (record c.world { activations = variable_over v i r x c.activations }) c)
       same s h c = absurd h
 
   pub enter_does : (ts : List DataType) (around : Option Name) → AllByRecursion IsBuiltType ts → n ≡ entering_in at p ts around m
@@ -210,10 +211,10 @@ module _ (d : Parts) (b : IsBuilt d) (at : Place) (p : ProcessId) (m n : Machine
       subst (Tracks d n) (sym (turn_is d none at p c q.0 q.1)) (subst (λ (x : Machine). Tracks d x (turned p q.0 c)) (sym k) (turn_tracks d m c a p r q.0 q.1 s e)))
       (λ c a. let q = state_is d m c a p r in ap (λ (e : Config). e.records) (turn_is d none at p c q.0 q.1))
 
-  pub watch_does : (w : Wait) (scope : Option Name) → WaitsFor d p w m n → Does d m n (occurred d at p (Suspend (Watches (watches_at d w) scope))) ls ls
-  watch_does w scope k = silent d m n (occurred d at p (Suspend (Watches (watches_at d w) scope))) ls
-      (λ c a. let q = state_is d m c a p r in subst (Tracks d n) (sym (watch_is d none at p c q.0 q.1 (watches_at d w) scope)) (watch_tracks d m c a p r q.0 q.1 w scope n k))
-      (λ c a. let q = state_is d m c a p r in ap (λ (e : Config). e.records) (watch_is d none at p c q.0 q.1 (watches_at d w) scope))
+  pub watch_does : (w : Waiter) → WaitsFor d p w m n → Does d m n (occurred d at p (Suspend (Watches (watches_at d w.wait) w.scope))) ls ls
+  watch_does w k = silent d m n (occurred d at p (Suspend (Watches (watches_at d w.wait) w.scope))) ls
+      (λ c a. let q = state_is d m c a p r in subst (Tracks d n) (sym (watch_is d none at p c q.0 q.1 (watches_at d w.wait) w.scope)) (watch_tracks d m c a p r q.0 q.1 w n k))
+      (λ c a. let q = state_is d m c a p r in ap (λ (e : Config). e.records) (watch_is d none at p c q.0 q.1 (watches_at d w.wait) w.scope))
 
   pub resume_does : (s : Side) (t : ℕ) → s ≡ side_at m.tree p → n ≡ resuming_at p s t m → Does d m n (occurred d at p (Resume_at t)) ls ls
   resume_does s t e k = silent d m n (occurred d at p (Resume_at t)) ls

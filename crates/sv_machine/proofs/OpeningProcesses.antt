@@ -4,7 +4,6 @@ use Rattle.std.proofs.lemmas.List.{take_more, length-take-le, length-map, map-ap
 use Rattle.std.specs.Prelude.{replicate, ◌&&◌, ◌||◌, if◌then◌else◌}
 use Rattle.std.specs.List.{list_any}
 use Rattle.sv_flat.specs.declared.process.Process.{Process}
-use Rattle.sv_flat.specs.declared.process.Watch.{Watch}
 use Rattle.sv_flat.specs.declared.design.Parts.{Parts}
 use Rattle.sv_flat.specs.Process.{Todo, Ready, Waiting, Start, body_in}
 use Rattle.sv_flat.specs.Config.{starts, is_always_comb}
@@ -15,7 +14,7 @@ use Rattle.sv_fork.specs.Tree.{Member, join_of, member_of}
 use Rattle.sv_process.specs.declared.frames.Frame.TheVariants.{Rest}
 use Rattle.sv_process.specs.Frames.{todos_of}
 use Rattle.sv_machine.specs.Machine.{rest_of, was_taken, made_of}
-use Rattle.sv_machine.specs.Waits.{awaited, awaited_at, awaited_by}
+use Rattle.sv_machine.specs.Waits.{Awaited, awaited, awaited_at, awaited_by}
 use Rattle.sv_machine.specs.Opening.{first_member, starter_count}
 
 module _ (d : Parts) where
@@ -59,8 +58,8 @@ module _ (d : Parts) where
   pub opening_waits : (fs : List Process) → map (awaited_at d) (map (λ p. None) fs) ≡ map awaited_by (map (opening_process d) fs)
   opening_waits [] = refl
   opening_waits (f ∷ fs) =
-      ap (λ (o : Option (List Watch)). o ∷ map (awaited_at d) (map (λ p. None) fs)) (sym (by_test (is_always_comb f.kind && list_any starts d.processes)))
-      ∙ ap (λ (os : List (Option (List Watch))). awaited_by (opening_process d f) ∷ os) (opening_waits fs)
+      ap (λ (o : Option Awaited). o ∷ map (awaited_at d) (map (λ p. None) fs)) (sym (by_test (is_always_comb f.kind && list_any starts d.processes)))
+      ∙ ap (λ (os : List (Option Awaited)). awaited_by (opening_process d f) ∷ os) (opening_waits fs)
 
   and_true : (b : Bool) (n : ℕ) → cond b 1 0 + n ≡ cond (b && true) 1 0 + n
   and_true true n = refl

@@ -268,7 +268,7 @@ module _ (d : Parts) (b : IsBuilt d) (p : ProcessId) (m n : Machine) (r : m.runn
 
     effects_are : micro d (seen d c) p q ≡ effects_of d x.went new out
     effects_are =
-        h.does (seen d c) q (seen_before d b m c a c.store) rest_is
+        h.does (seen d c) q (seen_before d m c a) rest_is
         (sym (made_is d m c a p r q is) ∙ ap (λ (y : Picture). slice_index_or y.made p.0 0) (sym a.stands.picture))
 
     plain : AllByRecursion IsPlainEffect (effects_of d x.went new out)

@@ -5,30 +5,22 @@ use Rattle.std.specs.List.{AllByRecursion}
 use Rattle.sv_value.specs.declared.number.ProcessId.{ProcessId}
 use Rattle.sv_value.specs.Regions.{Regions, ready_in, front_of}
 use Rattle.sv_flat.specs.declared.process.Process.{Process}
-use Rattle.sv_flat.specs.declared.process.Watch.{Watch}
-use Rattle.sv_flat.specs.declared.process.Watch.TheVariants.{On, Updates}
 use Rattle.sv_flat.specs.declared.design.Parts.{Parts}
-use Rattle.sv_flat.specs.State.{Store, View, Name}
-use Rattle.sv_flat.specs.Eval.{value_of}
+use Rattle.sv_flat.specs.State.{World, View, Name}
 use Rattle.sv_flat.specs.Process
 use Rattle.sv_flat.specs.Process.{Status, Ready, Running, Waiting, Moment, Turn_in_slot, Watches, Children, Queue, Start, ProcessState}
 use Rattle.sv_flat.specs.Config.{Config, unit_ticks, seen, starts}
 use Rattle.sv_flat.specs.Effects.Ends.{is_ended}
-use Rattle.sv_flat.specs.Woken.{Changed, allowed, some_fires, is_woken}
-use Rattle.sv_built.specs.declared.wait.Wait.{Wait}
-use Rattle.sv_built.specs.Built.{IsBuilt, IsBuiltWatch}
+use Rattle.sv_flat.specs.Woken.{Changed, some_fires, is_woken}
 use Rattle.sv_built.specs.Waits.{watches_at}
 use Rattle.sv_sound.specs.Sound.{IsSound, pending_count}
-use Rattle.sv_sound.specs.After.{with_store}
-use Rattle.sv_sound.proofs.Static.{fires_outside}
+use Rattle.sv_sound.specs.After.{with_values}
 use Rattle.sv_sound.proofs.Wakes.{states_after, regions_after, woken_in}
 use Rattle.sv_fork.specs.Tree.{Member, join_of, member_of}
 use Rattle.sv_assign.specs.Seen.{view_in}
-use Rattle.sv_sense.specs.Wakes.{woken_from, waits_after}
-use Rattle.sv_sense.proofs.BuiltLaws.{wait_built}
-use Rattle.sv_sense.proofs.EdgeLaws.{both_make_self}
-use Rattle.sv_sense.proofs.FireLaws.{fired_is}
-use Rattle.sv_machine.specs.Waits.{awaited, awaited_at, awaited_by}
+use Rattle.sv_sense.specs.declared.waiter.Waiter.{Waiter}
+use Rattle.sv_sense.specs.Wakes.{Scenes, woken_from, waits_after}
+use Rattle.sv_machine.specs.Waits.{Awaited, awaited, awaited_at, awaited_by}
 use Rattle.sv_machine.specs.Machine.{rest_of, was_taken, made_of}
 use Rattle.sv_machine.specs.Wakes.{side_at, all_ready}
 
@@ -38,24 +30,17 @@ use Rattle.sv_machine.specs.Wakes.{side_at, all_ready}
 pub seen_is : (d : Parts) (c : Config) → IsSound d c → (scope : Option Name) → seen d c scope ≡ view_in c.store c.activations c.time (unit_ticks d.scale) scope
 seen_is d c h scope = λ i. seen d (record c { world = record c.world { heap = h.no_heap i } }) scope
 
--- nothing is fired where nothing has changed
-pub quiet : (ws : List Watch) → AllByRecursion IsBuiltWatch ws → (v : View) → some_fires ws Changed v v ≡ false
-quiet [] b v = refl
-quiet (On e g c ∷ ws) b v =
-    ap (λ (f : Bool). (f && allowed c v) || some_fires ws Changed v v) (fired_is g e b.0.1 v v ∙ both_make_self g (value_of e v)) ∙ quiet ws b.1 v
-quiet (Updates k n ∷ ws) b v = quiet ws b.1 v
-
 -- ---- one process
 
--- a test of what is kept of a wait, that is one of the watches
-pub record Tests (d : Parts) (t : Option Wait → Bool) (old new : View) : Type 0 where
+-- a test of what is kept of a wait, that is one of the watches as its scope sees them
+pub record Tests (d : Parts) (t : Option Waiter → Bool) (old new : Scenes) : Type 0 where
   pub none : t None ≡ false
-  pub some : (w : Wait) → t (Some w) ≡ some_fires (watches_at d w) Changed old new
+  pub some : (w : Waiter) → t (Some w) ≡ some_fires (watches_at d w.wait) Changed (old w.scope) (new w.scope)
 
-awaited_none : (d : Parts) (c : Config) (s : Store) (x : Status) → awaited x ≡ None → (q : ProcessState) → q.latest ≡ x → is_woken d Changed c (with_store s c) q ≡ false
-awaited_none d c s x h q e = ap (λ (x : Status). is_woken d Changed c (with_store s c) (record q { latest = x })) e ∙ by_status x h
+awaited_none : (d : Parts) (c : Config) (v : World) (x : Status) → awaited x ≡ None → (q : ProcessState) → q.latest ≡ x → woken_in d c v 0 q ≡ false
+awaited_none d c v x h q e = ap (λ (x : Status). woken_in d c v 0 (record q { latest = x })) e ∙ by_status x h
   where
-    by_status : (x : Status) → awaited x ≡ None → is_woken d Changed c (with_store s c) (record q { latest = x }) ≡ false
+    by_status : (x : Status) → awaited x ≡ None → woken_in d c v 0 (record q { latest = x }) ≡ false
     by_status Ready h = refl
     by_status Running h = refl
     by_status Process.Ended h = refl
@@ -66,30 +51,35 @@ awaited_none d c s x h q e = ap (λ (x : Status). is_woken d Changed c (with_sto
     by_status (Waiting Queue) h = refl
     by_status (Waiting Start) h = refl
 
--- what waits for a change waits for these watches
-pub awaited_some : (a : List Watch) (x : Status) → awaited x ≡ Some a → (scope : Option Name) × (x ≡ Waiting (Watches a scope))
+-- what waits for a change waits for these watches, seen from this scope
+pub awaited_some : (a : Awaited) (x : Status) → awaited x ≡ Some a → x ≡ Waiting (Watches a.watches a.scope)
 awaited_some a Ready h = absurd (cc)
 awaited_some a Running h = absurd (cc)
 awaited_some a Process.Ended h = absurd (cc)
 awaited_some a (Waiting Moment) h = absurd (cc)
 awaited_some a (Waiting Turn_in_slot) h = absurd (cc)
-awaited_some a (Waiting (Watches ws scope)) h = (scope, (let e : ws ≡ a = cc in λ i. Waiting (Watches (e i) scope)))
+awaited_some a (Waiting (Watches ws scope)) h =
+    let b : Awaited = record { watches = ws; scope = scope } in
+    let e : b ≡ a = cc in
+    λ i. Waiting (Watches (e i).watches (e i).scope)
 awaited_some a (Waiting (Children all ps)) h = absurd (cc)
 awaited_some a (Waiting Queue) h = absurd (cc)
 awaited_some a (Waiting Start) h = absurd (cc)
 
-module _ (d : Parts) (b : IsBuilt d) (c : Config) (s : Store) (old new : View) (before : seen d c None ≡ old) (after : seen d (with_store s c) None ≡ new)
-    (t : Option Wait → Bool) (h : Tests d t old new) where
-  pub one_agrees : (n : ℕ) (q : ProcessState) (w : Option Wait) → awaited_at d w ≡ awaited_by q → woken_in d c s n q ≡ t w
-  one_agrees n q None e = awaited_none d c s q.latest (sym e) q refl ∙ sym h.none
-  one_agrees n q (Some w) e =
-      let x = awaited_some (watches_at d w) q.latest (sym e) in
-      ap (λ (x : Status). is_woken d Changed c (with_store s c) (record q { latest = x })) x.1
-      ∙ fires_outside d c (with_store s c) (watches_at d w) (wait_built d b w) x.0
-      ∙ (λ i. some_fires (watches_at d w) Changed (before i) (after i)) ∙ sym (h.some w)
+-- what the values are in all scopes, before and after
+pub record Sees (d : Parts) (c : Config) (v : World) (old new : Scenes) : Type 0 where
+  pub before : (scope : Option Name) → seen d c scope ≡ old scope
+  pub after : (scope : Option Name) → seen d (with_values v c) scope ≡ new scope
 
-  pub waits_agree : (n : ℕ) (qs : List ProcessState) (ws : List (Option Wait)) → map (awaited_at d) ws ≡ map awaited_by qs
-      → map (awaited_at d) (waits_after t ws) ≡ map awaited_by (states_after (woken_in d c s) n qs)
+module _ (d : Parts) (c : Config) (v : World) (old new : Scenes) (sees : Sees d c v old new) (t : Option Waiter → Bool) (h : Tests d t old new) where
+  pub one_agrees : (n : ℕ) (q : ProcessState) (w : Option Waiter) → awaited_at d w ≡ awaited_by q → woken_in d c v n q ≡ t w
+  one_agrees n q None e = awaited_none d c v q.latest (sym e) q refl ∙ sym h.none
+  one_agrees n q (Some w) e =
+      ap (λ (x : Status). woken_in d c v n (record q { latest = x })) (awaited_some (record { watches = watches_at d w.wait; scope = w.scope }) q.latest (sym e))
+      ∙ (λ i. some_fires (watches_at d w.wait) Changed (sees.before w.scope i) (sees.after w.scope i)) ∙ sym (h.some w)
+
+  pub waits_agree : (n : ℕ) (qs : List ProcessState) (ws : List (Option Waiter)) → map (awaited_at d) ws ≡ map awaited_by qs
+      → map (awaited_at d) (waits_after t ws) ≡ map awaited_by (states_after (woken_in d c v) n qs)
   waits_agree n [] [] e = refl
   waits_agree n [] (w ∷ ws) e = absurd (cc)
   waits_agree n (q ∷ qs) [] e = absurd (cc)
@@ -98,20 +88,20 @@ module _ (d : Parts) (b : IsBuilt d) (c : Config) (s : Store) (old new : View) (
       let rest : map (awaited_at d) ws ≡ map awaited_by qs = cc in
       let same = one_agrees n q w first in
       let z = waits_agree (n + 1) qs ws rest in
-      by_test (t w) refl (woken_in d c s n q) same first z
+      by_test (t w) refl (woken_in d c v n q) same first z
     where
-      by_test : (b : Bool) → t w ≡ b → (a : Bool) → a ≡ t w → awaited_at d w ≡ awaited_by q → map (awaited_at d) (waits_after t ws) ≡ map awaited_by (states_after (woken_in d c s) (n + 1) qs)
+      by_test : (b : Bool) → t w ≡ b → (a : Bool) → a ≡ t w → awaited_at d w ≡ awaited_by q → map (awaited_at d) (waits_after t ws) ≡ map awaited_by (states_after (woken_in d c v) (n + 1) qs)
           → awaited_at d (if t w then None else w) ∷ map (awaited_at d) (waits_after t ws)
-          ≡ awaited_by (if a then record q { latest = Ready } else q) ∷ map awaited_by (states_after (woken_in d c s) (n + 1) qs)
-      by_test true e true g f z = ap (λ (b : Bool). awaited_at d (if b then None else w) ∷ map (awaited_at d) (waits_after t ws)) e ∙ ap (λ (xs : List (Option (List Watch))). None ∷ xs) z
+          ≡ awaited_by (if a then record q { latest = Ready } else q) ∷ map awaited_by (states_after (woken_in d c v) (n + 1) qs)
+      by_test true e true g f z = ap (λ (b : Bool). awaited_at d (if b then None else w) ∷ map (awaited_at d) (waits_after t ws)) e ∙ ap (λ (xs : List (Option Awaited)). None ∷ xs) z
       by_test true e false g f z = absurd (cc)
       by_test false e true g f z = absurd (cc)
       by_test false e false g f z =
           ap (λ (b : Bool). awaited_at d (if b then None else w) ∷ map (awaited_at d) (waits_after t ws)) e ∙ (λ i. f i ∷ z i)
 
-  pub regions_agree : (ms : List Member) (n : ℕ) (qs : List ProcessState) (ws : List (Option Wait)) → map (awaited_at d) ws ≡ map awaited_by qs
+  pub regions_agree : (ms : List Member) (n : ℕ) (qs : List ProcessState) (ws : List (Option Waiter)) → map (awaited_at d) ws ≡ map awaited_by qs
       → ((i : ℕ) (q : ProcessState) → slice_get qs i ≡ Some q → q.side ≡ side_at ms (record { 0 = n + i })) → (r : Regions)
-      → all_ready ms (woken_from t n ws) r ≡ regions_after (woken_in d c s) n qs r
+      → all_ready ms (woken_from t n ws) r ≡ regions_after (woken_in d c v) n qs r
   regions_agree ms n [] [] e g r = refl
   regions_agree ms n [] (w ∷ ws) e g r = absurd (cc)
   regions_agree ms n (q ∷ qs) [] e g r = absurd (cc)
@@ -123,18 +113,18 @@ module _ (d : Parts) (b : IsBuilt d) (c : Config) (s : Store) (old new : View) (
       let side : q.side ≡ side_at ms (record { 0 = n }) = g 0 q refl ∙ ap (λ m. side_at ms (record { 0 = m })) z in
       let later : (i : ℕ) (x : ProcessState) → slice_get qs i ≡ Some x → x.side ≡ side_at ms (record { 0 = n + 1 + i }) =
       λ i x f. (let y : n + suc i ≡ n + 1 + i = omega arith in g (suc i) x f ∙ ap (λ m. side_at ms (record { 0 = m })) y) in
-      by_test (t w) refl (woken_in d c s n q) same side (regions_agree ms (n + 1) qs ws rest later)
+      by_test (t w) refl (woken_in d c v n q) same side (regions_agree ms (n + 1) qs ws rest later)
     where
       p : ProcessId
       p = record { 0 = n }
 
       by_test : (b : Bool) → t w ≡ b → (a : Bool) → a ≡ t w → q.side ≡ side_at ms p
-          → ((r : Regions) → all_ready ms (woken_from t (n + 1) ws) r ≡ regions_after (woken_in d c s) (n + 1) qs r)
+          → ((r : Regions) → all_ready ms (woken_from t (n + 1) ws) r ≡ regions_after (woken_in d c v) (n + 1) qs r)
           → all_ready ms (if t w then p ∷ woken_from t (n + 1) ws else woken_from t (n + 1) ws) r
-          ≡ regions_after (woken_in d c s) (n + 1) qs (if a then ready_in (front_of q.side) p r else r)
+          ≡ regions_after (woken_in d c v) (n + 1) qs (if a then ready_in (front_of q.side) p r else r)
       by_test true e true g f z =
           ap (λ (b : Bool). all_ready ms (if b then p ∷ woken_from t (n + 1) ws else woken_from t (n + 1) ws) r) e
-          ∙ z (ready_in (front_of (side_at ms p)) p r) ∙ ap (λ x. regions_after (woken_in d c s) (n + 1) qs (ready_in (front_of x) p r)) (sym f)
+          ∙ z (ready_in (front_of (side_at ms p)) p r) ∙ ap (λ x. regions_after (woken_in d c v) (n + 1) qs (ready_in (front_of x) p r)) (sym f)
       by_test true e false g f z = absurd (cc)
       by_test false e true g f z = absurd (cc)
       by_test false e false g f z = ap (λ (b : Bool). all_ready ms (if b then p ∷ woken_from t (n + 1) ws else woken_from t (n + 1) ws) r) e ∙ z r
@@ -179,10 +169,10 @@ family_stays t n (q ∷ qs) h =
     first false k = refl
 
 -- whom a change wakes is not over, and waits for no children
-pub woken_waits : (d : Parts) (c : Config) (s : Store) (n : ℕ) (q : ProcessState) → woken_in d c s n q ≡ true → (is_ended q.latest ≡ false) × (join_of q.latest ≡ None)
-woken_waits d c s n q = by_status q.latest
+pub woken_waits : (d : Parts) (c : Config) (v : World) (n : ℕ) (q : ProcessState) → woken_in d c v n q ≡ true → (is_ended q.latest ≡ false) × (join_of q.latest ≡ None)
+woken_waits d c v n q = by_status q.latest
   where
-    by_status : (x : Status) → is_woken d Changed c (with_store s c) (record q { latest = x }) ≡ true → (is_ended x ≡ false) × (join_of x ≡ None)
+    by_status : (x : Status) → woken_in d c v n (record q { latest = x }) ≡ true → (is_ended x ≡ false) × (join_of x ≡ None)
     by_status Ready h = absurd (cc)
     by_status Running h = absurd (cc)
     by_status Process.Ended h = absurd (cc)

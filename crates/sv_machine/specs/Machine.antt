@@ -10,7 +10,6 @@ use Rattle.sv_flat.specs.declared.stmt.Stmt.{Stmt}
 use Rattle.sv_flat.specs.declared.stmt.Form.{Form}
 use Rattle.sv_flat.specs.declared.stmt.Form.TheVariants as form
 use Rattle.sv_flat.specs.State.{Store, Activation}
-use Rattle.sv_flat.specs.declared.process.Watch.{Watch}
 use Rattle.sv_value.specs.declared.place.Place.{Place}
 use Rattle.sv_flat.specs.Process.{ProcessState, Todo}
 use Rattle.sv_flat.specs.Config.{Config, Strobe, Record}
@@ -23,7 +22,7 @@ use Rattle.sv_machine.specs.declared.machine.Machine.{Machine}
 use Rattle.sv_machine.specs.declared.machine.Kept.{Kept}
 use Rattle.sv_machine.specs.declared.line.Line.{Line}
 use Rattle.sv_machine.specs.Log.{records_of}
-use Rattle.sv_machine.specs.Waits.{awaited_at, awaited_by}
+use Rattle.sv_machine.specs.Waits.{Awaited, awaited_at, awaited_by}
 
 -- ---- parts of what is kept
 
@@ -68,7 +67,7 @@ pub record Picture : Type 0 where
   pub family : List Member
   pub made : List ℕ
   pub remaining : List (List Todo)
-  pub waiting : List (Option (List Watch))
+  pub waiting : List (Option Awaited)
   pub taken : List Bool
   -- how many starters were not taken yet
   pub starters : ℕ

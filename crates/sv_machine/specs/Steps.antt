@@ -17,12 +17,12 @@ use Rattle.sv_flat.specs.State.{Name, first_value}
 use Rattle.sv_flat.specs.Config.{Config}
 use Rattle.sv_flat.specs.Effects.Writes.{variable_over}
 use Rattle.sv_flat.specs.Process.{Todo, Spot, Variable_of, Effect, Enter, body_in}
-use Rattle.sv_built.specs.declared.wait.Wait.{Wait}
 use Rattle.sv_built.specs.declared.wait.Wait.TheVariants as wait
 use Rattle.sv_fork.specs.Tree.{ended_in}
 use Rattle.sv_arena.specs.Made.{entered}
+use Rattle.sv_sense.specs.declared.waiter.Waiter.{Waiter}
 use Rattle.sv_sense.specs.Sensed.{Covers}
-use Rattle.sv_sound.specs.After.{with_activations, changed_to, store_after}
+use Rattle.sv_sound.specs.After.{changed_to, varied_to, store_after}
 use Rattle.sv_process.specs.Frames.{todos_of}
 use Rattle.sv_process.specs.Effects.{effects_in}
 use Rattle.sv_process.specs.declared.effect.Effect.{Effect as Own_effect}
@@ -31,9 +31,9 @@ use Rattle.sv_process.specs.declared.went.Went.TheVariants as went
 use Rattle.sv_built.specs.Entered.{types_at}
 use Rattle.sv_machine.specs.declared.machine.Machine.{Machine}
 
--- a value at a place: a change of an object wakes those whom it fires, and one of a variable of an activation nobody
+-- a value at a place, and those whom the change wakes are ready
 abbrev pub assigned_in : Parts → Spot → Val → Config → Config
-assigned_in d (Variable_of n i r) x c = with_activations (variable_over n i r x c.activations) c
+assigned_in d (Variable_of n i r) x c = varied_to d (variable_over n i r x c.activations) c
 assigned_in d s x c = changed_to d (store_after s x c.store) c
 
 -- a process makes an activation with variables of these types, or meets the fault that there are too many
@@ -55,7 +55,7 @@ abbrev pub turned_in : ProcessId → Side → Machine → Machine
 turned_in p s m = record m { running = None; regions = ready_in (idle_of s) p m.regions }
 
 -- a process waits for a change
-pub record WaitsFor (d : Parts) (p : ProcessId) (w : Wait) (m n : Machine) : Type 0 where
+pub record WaitsFor (d : Parts) (p : ProcessId) (w : Waiter) (m n : Machine) : Type 0 where
   pub is : n ≡ record m { running = None; sense = n.sense }
   pub waits : n.sense.waits ≡ slice_set m.sense.waits p.0 (Some w)
   pub covers : Covers d n.sense
@@ -89,7 +89,7 @@ pub record BeginsAgain (d : Parts) (f : Process) (p : ProcessId) (m n : Machine)
 pub record WaitsAgain (d : Parts) (f : Process) (p : ProcessId) (m n : Machine) : Type 0 where
   pub is : n ≡ record m { running = None; processes = n.processes; sense = n.sense }
   pub left : Remains d p (body_in d f.body None) m n
-  pub waits : n.sense.waits ≡ slice_set m.sense.waits p.0 (Some (wait.Watched p))
+  pub waits : n.sense.waits ≡ slice_set m.sense.waits p.0 (Some (record { wait = wait.Watched p; scope = None }))
   pub covers : Covers d n.sense
 
 -- the end of a body, by what the process comes from

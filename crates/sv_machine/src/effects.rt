@@ -20,6 +20,7 @@ use crate::line::Line;
 use crate::machine::{Kept, Machine};
 use crate::sides::{front_region, idle_region, updates_region};
 use crate::writes::assign;
+use sv_arena::Name;
 use sv_built::{Design, Wait};
 use sv_flat::ProcessKind;
 use sv_process::Effect;
@@ -49,7 +50,7 @@ pub fn occur(
             enter(machine, design, process, at, entered, around)
         }
         Effect::Turn => turn(machine, process, side),
-        Effect::Watch { wait, .. } => watch(machine, design, process, wait),
+        Effect::Watch { wait, scope } => watch(machine, design, process, wait, scope),
         Effect::ResumeAt(time) => resume_at(machine, process, side, time),
         Effect::UpdateAt { time, job } => update_at(machine, side, time, job),
         Effect::Spawn {
@@ -94,19 +95,22 @@ fn turn(machine: &mut Machine, process: ProcessId, side: Side) -> Result<(), NoM
     Ok(())
 }
 
-/// The process waits for a change.
+/// The process waits for a change, as seen from a scope.
 fn watch(
     machine: &mut Machine,
     design: &Design,
     process: ProcessId,
     wait: Wait,
+    scope: Option<Name>,
 ) -> Result<(), NoMemory>
     requires known { process.0 < length machine.old.sense.waits }
     requires covers { Covers design.now machine.old.sense }
-    ensures ok { OnOk result (WaitsFor design.now process wait machine.old machine.new) }
+    ensures ok { OnOk result (WaitsFor design.now process (record { wait = wait; scope = scope }) machine.old machine.new) }
     ensures moment { SameMoment machine.old machine.new }
 {
-    machine.sense.wait(machine.alloc, design, process, wait)?;
+    machine
+        .sense
+        .wait(machine.alloc, design, process, wait, scope)?;
     machine.running = None;
     Ok(())
 }
@@ -191,7 +195,7 @@ fn end_first(machine: &mut Machine, design: &Design, process: ProcessId) -> Resu
         }
         ProcessKind::AlwaysComb | ProcessKind::Assign | ProcessKind::Port => {
             machine.processes[process.0 as usize].begin(own.body)?;
-            watch(machine, design, process, Wait::Watched(process))
+            watch(machine, design, process, Wait::Watched(process), None)
         }
     }
 }

@@ -3,13 +3,13 @@ ghost use Rattle.std.specs.Prelude.{◌≡◌, ◌≤◌, ◌+◌, ◌^◌, [], 
 ghost use Rattle.sv_value.specs.declared.number.ProcessId.{ProcessId as ProcessNumber};
 ghost use Rattle.sv_value.specs.Regions.{standing};
 ghost use Rattle.sv_flat.specs.Steps.{job_done, job_spot, updates_written};
-ghost use Rattle.sv_flat.specs.Config.{unit_ticks};
+ghost use Rattle.sv_flat.specs.Effects.Writes.{variable_over};
 ghost use Rattle.sv_built.specs.Built.{IsBuilt};
 ghost use Rattle.sv_sound.specs.Sound.{IsPlainJob, weight_of_all};
-ghost use Rattle.sv_sound.specs.After.{changed_to, store_after};
-ghost use Rattle.sv_assign.specs.Seen.{view_in, view_before};
+ghost use Rattle.sv_sound.specs.After.{changed_to, store_after, varied_to};
 ghost use Rattle.sv_assign.specs.Places.{spot_in};
 ghost use Rattle.sv_sense.specs.Sensed.{Covers};
+ghost use Rattle.sv_sense.specs.Wakes.{scenes_before, scenes_after};
 ghost use Rattle.sv_machine.specs.Steps.{assigned_in};
 ghost use Rattle.sv_machine.specs.Wakes.{Wakes, waits_weight};
 ghost use Rattle.sv_machine.specs.Machine.{IsAt, Makes, SameMoment, SameButValues};
@@ -17,25 +17,21 @@ ghost use Rattle.sv_machine.specs.Machine.{IsAt, Makes, SameMoment, SameButValue
 use crate::machine::Machine;
 use crate::wakes::make_ready;
 use std::alloc::Global;
-use sv_arena::Activations;
-use sv_assign::{Before, Seen, Spot, overwrite};
+use sv_arena::Name;
+use sv_assign::{Before, Change, Spot, overwrite};
 use sv_built::Design;
 use sv_fork::Tree;
 use sv_process::Spare;
 use sv_sched::Regions;
 use sv_sense::Sense;
-use sv_store::{Overwritten, Store};
-use sv_value::{Job, NoMemory, ObjectTarget, Seq, Update, Val};
+use sv_value::{Job, NoMemory, ObjectTarget, Range, Seq, Update, Val};
 
-/// Lets those go on whom a change of an object wakes, by number. What they wait for fires alike in all scopes.
+/// Lets those go on whom a change wakes, by number, each of whom sees it in its own scope.
 fn wake(
     alloc: Global,
     design: &Design,
     tree: &Tree,
-    store: &Store,
-    activations: &Activations,
-    time: u64,
-    overwritten: &Overwritten,
+    before: &Before,
     sense: &mut Sense,
     regions: &mut Regions,
     spare: &mut Spare,
@@ -47,40 +43,16 @@ fn wake(
     requires count { length sense.old.waits ≡ length tree.now }
     requires few { length tree.now ≤ 2 ^ 18 }
     ensures { OnOk result (Wakes design.now tree.now
-        (view_before overwritten.now store.now activations.now.activations time (unit_ticks design.now.scale) None)
-        (view_in store.now activations.now.activations time (unit_ticks design.now.scale) None) sense.old regions.old sense.new regions.new) }
+        (scenes_before before.now) (scenes_after before.now) sense.old regions.old sense.new regions.new) }
 {
     let mut woken = spare.woken(alloc);
-    let unit = design.scale().unit_ticks();
-    let seen = Seen {
-        store,
-        activations,
-        scope: None,
-        time,
-        unit,
-    };
-    let before = Before {
-        store,
-        activations,
-        scope: None,
-        time,
-        unit,
-        overwritten,
-    };
-    sense.fire(
-        alloc,
-        design,
-        overwritten.object,
-        &before,
-        &seen,
-        &mut woken,
-    )?;
+    sense.fire(alloc, design, before, &mut woken)?;
     let done = make_ready(tree, &woken, regions);
     spare.keep_woken(woken);
     done
 }
 
-/// A value is written to a place. A variable of an activation is one for which nobody waits.
+/// A value is written to a place, and those go on whom the change wakes.
 pub fn assign(
     machine: &mut Machine,
     design: &Design,
@@ -98,12 +70,56 @@ pub fn assign(
             name,
             variable,
             part,
-        } => {
-            machine.activations.write(name, variable, part, value);
-            Ok(())
-        }
+        } => vary(machine, design, name, variable, part, value),
         Spot::Nowhere => Ok(()),
     }
+}
+
+/// A value is written to a variable of an activation, and those go on whom the change wakes (IEEE 1800-2017, 6.21 and 9.4.2).
+fn vary(
+    machine: &mut Machine,
+    design: &Design,
+    name: Name,
+    variable: u32,
+    part: Option<Range>,
+    value: Val,
+) -> Result<(), NoMemory>
+    requires at { IsAt design.now machine.old }
+    requires built { IsBuilt design.now }
+    ensures ok { OnOk result (Makes design.now machine.old machine.new
+        (λ c. varied_to design.now (variable_over name variable part value c.activations) c)) }
+    ensures moment { SameMoment machine.old machine.new }
+{
+    if !machine.sense.has_scoped() {
+        machine.activations.write(name, variable, part, value);
+        return Ok(());
+    }
+    let old = machine
+        .activations
+        .value(machine.alloc, Some(name), 0, u64::from(variable))?;
+    machine.activations.write(name, variable, part, value);
+    let change = Change::Variable {
+        name,
+        variable,
+        old: &old,
+    };
+    let before = Before {
+        store: &machine.store,
+        activations: &machine.activations,
+        scope: None,
+        time: machine.time,
+        unit: design.scale().unit_ticks(),
+        change: &change,
+    };
+    wake(
+        machine.alloc,
+        design,
+        &machine.tree,
+        &before,
+        &mut machine.sense,
+        &mut machine.regions,
+        &mut machine.spare,
+    )
 }
 
 /// A value is written to an object, and those go on whom the change wakes.
@@ -123,14 +139,20 @@ pub fn write(
     match overwrite(&mut machine.store, target, value)? {
         None => Ok(()),
         Some(overwritten) => {
+            let change = Change::Object(&overwritten);
+            let before = Before {
+                store: &machine.store,
+                activations: &machine.activations,
+                scope: None,
+                time: machine.time,
+                unit: design.scale().unit_ticks(),
+                change: &change,
+            };
             wake(
                 machine.alloc,
                 design,
                 &machine.tree,
-                &machine.store,
-                &machine.activations,
-                machine.time,
-                &overwritten,
+                &before,
                 &mut machine.sense,
                 &mut machine.regions,
                 &mut machine.spare,

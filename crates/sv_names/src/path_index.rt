@@ -2,7 +2,7 @@
 ghost use Rattle.std.specs.Prelude.{◌≡◌, IfOk, drop};
 ghost use Rattle.sv_names.specs.Types as types;
 
-use crate::path_marks::{MarkIndex, marks_of, with_path};
+use crate::path_marks::{MarkIndex, mark_of, marks_of};
 use crate::{Path, same_path};
 use std::alloc::Global;
 use std::marker::Model;
@@ -50,7 +50,7 @@ impl PathIndex {
         ensures { result ≡ types.position_of 0 path.now self.now }
     {
         let paths = self.paths.as_slice();
-        match self.first.get(&with_path(0, path)) {
+        match self.first.get(&mark_of(path)) {
             None => paths.len(),
             Some(first) => position_from(*first, path, paths),
         }

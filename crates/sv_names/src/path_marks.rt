@@ -29,11 +29,11 @@ fn with_name(mark: u64, name: &[u8]) -> u64
     mark
 }
 
-/// A mark with a path behind it.
-pub(crate) fn with_path(mark: u64, path: &[Text]) -> u64
-    ensures { result ≡ with_path mark path.now }
+/// The mark of a path: a number by which what is known of it is found. Other paths may have the same one.
+pub fn mark_of(path: &[Text]) -> u64
+    ensures { result ≡ with_path 0 path.now }
 {
-    let mut mark = mark;
+    let mut mark = 0;
     for name in path {
         mark = mixed(with_name(mark, name.bytes()), 0);
     }
@@ -46,7 +46,7 @@ pub(crate) fn marks_of(alloc: Global, paths: &[Path]) -> Result<MarkIndex, NoMem
 {
     let mut index = MarkIndex::new(alloc);
     for (position, path) in paths.iter().enumerate() {
-        add_mark(&mut index, with_path(0, path.as_slice()), position)?;
+        add_mark(&mut index, mark_of(path.as_slice()), position)?;
     }
     Ok(index)
 }

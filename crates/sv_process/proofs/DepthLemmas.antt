@@ -21,7 +21,7 @@ use Rattle.sv_built.specs.Positions.{body_of, stmt_at}
 use Rattle.sv_process.specs.declared.frames.Frame.{Frame}
 use Rattle.sv_process.specs.declared.frames.Frame.TheVariants as frame
 use Rattle.sv_process.specs.Calls.{called_at, call_in, end_at, end_of_call, end_of_form, end_of_routine}
-use Rattle.sv_process.specs.Frames.{to_do, turn_at, turns_of, turns_at, elements_at, put_of, put_at, children_of, children_at, todos_in, todos_of, is_end, is_more}
+use Rattle.sv_process.specs.Frames.{to_do, turn_at, turns_of, turns_at, elements_at, put_of, put_at, children_of, children_at, todos_in, todos_of, ends_in, ends_of, is_end, is_more}
 use Rattle.sv_process.proofs.FrameLemmas.{push_first}
 
 -- one where something holds
@@ -118,17 +118,39 @@ pub open_next : (d : Parts) (xs : List Frame) (i : ℕ) (f : Frame) (b a : Bool)
     → open_calls (todos_of d (reverse (take (i + 1) xs))) ≡ one_if a + open_calls (todos_of d (reverse (take i xs)))
 open_next d xs i f b a h is e g = open_more d (take i xs) (take (i + 1) xs) f a (take_more xs i f h ∙ ap (λ u. take i xs ++ u ∷ []) (sym is)) (sym e ∙ g)
 
+-- ---- the entries that end calls
+
+ends_one : (f : Frame) → ends_in f ≤ 1
+ends_one (frame.Leave p n callee caller) = omega arith
+ends_one f = omega arith
+
+-- no more than all
+pub ends_few : (fs : List Frame) → ends_of fs ≤ length fs
+ends_few [] = omega arith
+ends_few (f ∷ fs) = omega (arith, ends_one f, ends_few fs)
+
+-- what is counted with an entry more
+pub ends_pushed : (xs ys : List Frame) (f : Frame) (calls ends : ℕ) → ys ≡ xs ++ f ∷ [] → calls ≡ ends_of (reverse xs) → ends ≡ ends_in f
+    → calls + ends ≤ length ys
+ends_pushed xs ys f calls ends e g h =
+    let all : ends_of (reverse ys) ≡ ends_in f + ends_of (reverse xs) = ap (λ (u : List Frame). ends_of (reverse u)) e ∙ ap ends_of (push_first xs f) in
+    omega (arith, all, g, h, ends_few (reverse ys), length-reverse ys)
+
 at_most_one : (b : Bool) → one_if b ≤ 1
 at_most_one true = omega arith
 at_most_one false = omega arith
 
--- no more calls are open than there are entries
-open_few : (d : Parts) (fs : List Frame) → open_calls (todos_of d fs) ≤ length fs
-open_few d [] = omega arith
-open_few d (f ∷ fs) = omega (arith, open_in d f (todos_of d fs), at_most_one (is_end d f), open_few d fs)
+open_one : (d : Parts) (f : Frame) → one_if (is_end d f) ≤ ends_in f
+open_one d (frame.Leave p n callee caller) = at_most_one (is_more (end_at d (stmt_at d p) n callee caller))
+open_one d f = omega arith
 
-pub few_calls : (d : Parts) (xs : List Frame) → length xs < 1000 → nat_le 1000 (open_calls (todos_of d (reverse xs))) ≡ false
-few_calls d xs few = above (open_calls (todos_of d (reverse xs))) (omega (arith, open_few d (reverse xs), length-reverse xs))
+-- no more calls are open than entries end calls
+open_few : (d : Parts) (fs : List Frame) → open_calls (todos_of d fs) ≤ ends_of fs
+open_few d [] = omega arith
+open_few d (f ∷ fs) = omega (arith, open_in d f (todos_of d fs), open_one d f, open_few d fs)
+
+pub few_calls : (d : Parts) (fs : List Frame) → ends_of fs < 1000 → nat_le 1000 (open_calls (todos_of d fs)) ≡ false
+few_calls d fs few = above (open_calls (todos_of d fs)) (omega (arith, open_few d fs))
   where
     above : (n : ℕ) → n < 1000 → nat_le 1000 n ≡ false
     above n h = grind (arith, nat_tests)

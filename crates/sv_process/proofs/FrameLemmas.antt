@@ -1,9 +1,8 @@
--- What a stack stands for, by its last entry.
+-- What a stack stands for, by its first entry.
 use Rattle.std.proofs.Common.{ℕ, ◌≡◌, ◌+◌, ◌-◌, ◌<◌, zero, suc, List, [], ◌∷◌, ◌++◌, Option, None, Some, true, false, refl, ap, subst, sym, ◌∙◌, arith, length, drop, map, reverse, length-append, inl, inr}
-use Rattle.std.specs.Prelude.{slice_get, slice_set, option_to_list, nat_lt, not, ◌==◌}
+use Rattle.std.specs.Prelude.{slice_get, nat_lt, IfSome, IfNone}
 use Rattle.std.proofs.lemmas.List.{append-nil, get_or_push, reverse-append, drop_more}
 use Rattle.std.proofs.lemmas.Bool.Decides.{nat_tests}
-use Rattle.std.proofs.Math.Seq.{set-append_seam}
 use Rattle.std.proofs.lemmas.Option.{slice_get-get_or, slice_get_cases}
 use Rattle.sv_flat.specs.declared.design.Parts.{Parts}
 use Rattle.sv_value.specs.declared.number.RoutineId.{RoutineId}
@@ -56,18 +55,37 @@ last_first (x ∷ xs) f h =
 pub push_first : (xs : List Frame) (f : Frame) → reverse (xs ++ f ∷ []) ≡ f ∷ reverse xs
 push_first xs f = reverse-append xs (f ∷ [])
 
+no_first : (f : Frame) (us : List Frame) → [] ≡ f ∷ us → ⊥
+no_first f us h = cc
+
+first_same : {a b : Frame} {us vs : List Frame} → a ∷ us ≡ b ∷ vs → a ≡ b
+first_same h = cc
+
 -- an entry of which nothing is left may go
-pub popped_same : (d : Parts) (xs ys : List Frame) (o : Option Frame) (top : Frame) → xs ≡ ys ++ option_to_list o → slice_get xs (length xs - 1) ≡ Some top
-    → is_more (todos_in d top) ≡ false → todos_of d (reverse ys) ≡ todos_of d (reverse xs)
-popped_same d xs ys None top e h done = ap (λ (u : List Frame). todos_of d (reverse u)) (sym (append-nil ys) ∙ sym e)
-popped_same d xs ys (Some f) top e h done =
-    let same : f ≡ top = some_same (sym (slice_get-last ys f) ∙ ap (λ (u : List Frame). slice_get u (length u - 1)) (sym e) ∙ h) in
-    let none : todos_in d f ≡ [] = nothing (todos_in d f) (ap (λ u. is_more (todos_in d u)) same ∙ done) in
-    sym (ap (λ (u : List Frame). todos_of d (reverse u)) e ∙ ap (todos_of d) (push_first ys f) ∙ ap (λ u. u ++ todos_of d (reverse ys)) none)
+pub popped_same : (d : Parts) (xs ys : List Frame) (o : Option Frame) (top : Frame) → xs ≡ top ∷ drop 1 xs → IfSome o (λ f. xs ≡ f ∷ ys)
+    → IfNone o ((xs ≡ []) × (ys ≡ [])) → is_more (todos_in d top) ≡ false → todos_of d ys ≡ todos_of d xs
+popped_same d xs ys None top e some none done = absurd (no_first top (drop 1 xs) (sym none.0 ∙ e))
+popped_same d xs ys (Some f) top e some none done =
+    let same : f ≡ top = first_same (sym some ∙ e) in
+    let gone : todos_in d f ≡ [] = nothing (todos_in d f) (ap (λ u. is_more (todos_in d u)) same ∙ done) in
+    sym (ap (todos_of d) some ∙ ap (λ u. u ++ todos_of d ys) gone)
   where
     nothing : (ts : List Todo) → is_more ts ≡ false → ts ≡ []
     nothing [] h = refl
     nothing (t ∷ ts) h = cc
+
+-- where there is a first entry, fewer are left without it
+pub popped_fewer : (xs ys : List Frame) (o : Option Frame) (top : Frame) → xs ≡ top ∷ drop 1 xs → IfNone o ((xs ≡ []) × (ys ≡ []))
+    → IfSome o (λ f. length ys < length xs) → length ys < length xs
+popped_fewer xs ys None top e none fewer = absurd (no_first top (drop 1 xs) (sym none.0 ∙ e))
+popped_fewer xs ys (Some f) top e none fewer = fewer
+
+-- something is left of the first entry
+pub settled_first : (d : Parts) (xs : List Frame) (f : Frame) → xs ≡ f ∷ drop 1 xs → is_more (todos_in d f) ≡ true → IsSettled d xs
+settled_first d xs f e h = subst (IsSettled d) (sym e) h
+
+pub settled_none : (d : Parts) (xs : List Frame) → xs ≡ [] → IsSettled d xs
+settled_none d xs e = subst (IsSettled d) (sym e) tt
 
 -- ---- what comes first
 
@@ -106,11 +124,10 @@ first_of_all : (ts us : List Todo) (t : Todo) → ts ≡ t ∷ us → (vs : List
 first_of_all ts us t e vs = subst (λ u. u ++ vs ≡ t ∷ drop 1 (u ++ vs)) (sym e) refl
 
 -- the same by the entry that comes first
-by_entry : (d : Parts) (xs : List Frame) (f : Frame) (t : Todo) (us : List Todo) → slice_get xs (length xs - 1) ≡ Some f → todos_in d f ≡ t ∷ us
-    → todos_of d (reverse xs) ≡ t ∷ drop 1 (todos_of d (reverse xs))
+by_entry : (d : Parts) (xs : List Frame) (f : Frame) (t : Todo) (us : List Todo) → xs ≡ f ∷ drop 1 xs → todos_in d f ≡ t ∷ us
+    → todos_of d xs ≡ t ∷ drop 1 (todos_of d xs)
 by_entry d xs f t us g e =
-    let split = last_first xs f g in
-    subst (λ u. todos_of d u ≡ t ∷ drop 1 (todos_of d u)) (sym split) (first_of_all (todos_in d f) us t e (todos_of d (drop 1 (reverse xs))))
+    subst (λ u. todos_of d u ≡ t ∷ drop 1 (todos_of d u)) (sym g) (first_of_all (todos_in d f) us t e (todos_of d (drop 1 xs)))
 
 -- the end of a call, by what is called
 pub end_is : (d : Parts) (p : Position) (n : Option ℕ) (s : Stmt) (c : Call) (r : RoutineId) (as' : List Argument) (u : Subroutine) (callee caller : Option Name)
@@ -120,8 +137,8 @@ end_is d p n s c r as' u callee caller at number is found =
     ap (λ o. end_at d o n callee caller) at ∙ ap (λ o. end_of_call d s.at o callee caller) number
     ∙ ap (λ f. end_of_form d s.at c.result f callee caller) is ∙ ap (λ o. end_of_routine s.at c.result as' callee caller o) found
 
--- the last entry comes first
-pub first_entry : (d : Parts) (xs : List Frame) (f : Frame) → slice_get xs (length xs - 1) ≡ Some f → IsFirst d f (todos_of d (reverse xs))
+-- the first entry comes first
+pub first_entry : (d : Parts) (xs : List Frame) (f : Frame) → xs ≡ f ∷ drop 1 xs → IsFirst d f (todos_of d xs)
 first_entry d xs (frame.Rest p scope) g = λ s at.
     by_entry d xs (frame.Rest p scope) (to_do scope s) (map (to_do scope) (drop (p.place + 1) (body_of d p.routine))) g
     (ap (map (to_do scope)) (stmts_from p.place (body_of d p.routine) s at))
@@ -146,16 +163,27 @@ no_entry (x ∷ xs) h = absurd (omega arith)
 
 -- ---- what is left after it
 
-pub left_rest : (d : Parts) (xs ys zs : List Frame) (p : Position) (scope : Option Name) → xs ≡ ys ++ frame.Rest p scope ∷ [] → p.place < length (body_of d p.routine)
-    → zs ≡ ys ++ frame.Rest (record { routine = p.routine; place = p.place + 1 }) scope ∷ [] → todos_of d (reverse zs) ≡ drop 1 (todos_of d (reverse xs))
-left_rest d xs ys zs p scope e h g =
-    let old : todos_of d (reverse xs) ≡ rest_at d p scope ++ todos_of d (reverse ys) =
-    ap (λ (u : List Frame). todos_of d (reverse u)) e ∙ ap (todos_of d) (push_first ys (frame.Rest p scope)) in
-    let q : Position = record { routine = p.routine; place = p.place + 1 } in
-    let new : todos_of d (reverse zs) ≡ rest_at d q scope ++ todos_of d (reverse ys) =
-    ap (λ (u : List Frame). todos_of d (reverse u)) g ∙ ap (todos_of d) (push_first ys (frame.Rest q scope)) in
-    new ∙ one_less p.place (body_of d p.routine) h (todos_of d (reverse ys)) ∙ sym (ap (drop 1) old)
+-- an entry of one thing
+left_one : (d : Parts) (xs ys : List Frame) (f : Frame) → xs ≡ f ∷ ys → ((ts : List Todo) → ts ≡ drop 1 (todos_in d f ++ ts))
+    → todos_of d ys ≡ drop 1 (todos_of d xs)
+left_one d xs ys f e one = one (todos_of d ys) ∙ sym (ap (λ (u : List Frame). drop 1 (todos_of d u)) e)
+
+-- the entry that comes first has something left
+settled_top : (d : Parts) (xs ys : List Frame) (f : Frame) → xs ≡ f ∷ ys → IsSettled d xs → is_more (todos_in d f) ≡ true
+settled_top d xs ys f e h = subst (IsSettled d) e h
+
+-- the statements of a routine, from the next place on
+pub left_rest : (d : Parts) (xs ys : List Frame) (p : Position) (scope : Option Name) → xs ≡ frame.Rest p scope ∷ ys → IsSettled d xs
+    → todos_of d (frame.Rest (record { routine = p.routine; place = p.place + 1 }) scope ∷ ys) ≡ drop 1 (todos_of d xs)
+left_rest d xs ys p scope e h =
+    let more : is_more (rest_at d p scope) ≡ true = settled_top d xs ys (frame.Rest p scope) e h in
+    let lt : nat_lt p.place (length (body_of d p.routine)) ≡ true = more_rest p.place (body_of d p.routine) scope ∙ more in
+    one_less p.place (body_of d p.routine) (below p.place (length (body_of d p.routine)) lt) (todos_of d ys)
+    ∙ sym (ap (λ (u : List Frame). drop 1 (todos_of d u)) e)
   where
+    below : (n m : ℕ) → nat_lt n m ≡ true → n < m
+    below n m h = grind (arith, nat_tests)
+
     one_less : (n : ℕ) (ss : List Stmt) → n < length ss → (ts : List Todo) → map (to_do scope) (drop (n + 1) ss) ++ ts ≡ drop 1 (map (to_do scope) (drop n ss) ++ ts)
     one_less n [] h ts = absurd (omega arith)
     one_less zero (s ∷ ss) h ts = refl
@@ -163,57 +191,16 @@ left_rest d xs ys zs p scope e h g =
         let e : suc n + 1 ≡ suc (n + 1) = omega arith in
         ap (λ k. map (to_do scope) (drop k (s ∷ ss)) ++ ts) e ∙ one_less n ss (omega arith) ts
 
--- an entry of one thing
-left_one : (d : Parts) (xs ys : List Frame) (f : Frame) → xs ≡ ys ++ f ∷ [] → ((ts : List Todo) → ts ≡ drop 1 (todos_in d f ++ ts))
-    → todos_of d (reverse ys) ≡ drop 1 (todos_of d (reverse xs))
-left_one d xs ys f e one =
-    let old : todos_of d (reverse xs) ≡ todos_in d f ++ todos_of d (reverse ys) = ap (λ (u : List Frame). todos_of d (reverse u)) e ∙ ap (todos_of d) (push_first ys f) in
-    one (todos_of d (reverse ys)) ∙ sym (ap (drop 1) old)
-
--- the entry that comes first has something left
-settled_top : (d : Parts) (xs ys : List Frame) (f : Frame) → xs ≡ ys ++ f ∷ [] → IsSettled d (reverse xs) → is_more (todos_in d f) ≡ true
-settled_top d xs ys f e h = subst (IsSettled d) (ap reverse e ∙ push_first ys f) h
-
--- a list by its last element
-split_last : (xs : List Frame) (f : Frame) → slice_get xs (length xs - 1) ≡ Some f → (front : List Frame) × (xs ≡ front ++ f ∷ [])
-split_last [] f h = absurd (cc)
-split_last (x ∷ xs) f h =
-    let l = last_of x xs in
-    let same : l.1 ≡ f = some_same (sym (slice_get-last l.0 l.1) ∙ ap (λ (u : List Frame). slice_get u (length u - 1)) (sym l.2) ∙ h) in
-    (l.0, l.2 ∙ ap (λ u. l.0 ++ u ∷ []) same)
-
-slice_set-last : (fs : List Frame) (f g : Frame) → slice_set (fs ++ f ∷ []) (length (fs ++ f ∷ []) - 1) g ≡ fs ++ g ∷ []
-slice_set-last fs f g =
-    let n : length (fs ++ f ∷ []) ≡ length fs + 1 = length-append fs (f ∷ []) in
-    let k : length (fs ++ f ∷ []) - 1 ≡ length fs = omega arith in
-    ap (λ i. slice_set (fs ++ f ∷ []) i g) k ∙ set-append_seam fs f [] g
-
--- the statements of a routine, from the next place on
-pub left_rest_set : (d : Parts) (xs : List Frame) (p : Position) (scope : Option Name) → slice_get xs (length xs - 1) ≡ Some (frame.Rest p scope)
-    → IsSettled d (reverse xs)
-    → todos_of d (reverse (slice_set xs (length xs - 1) (frame.Rest (record { routine = p.routine; place = p.place + 1 }) scope))) ≡ drop 1 (todos_of d (reverse xs))
-left_rest_set d xs p scope g h =
-    let q : Position = record { routine = p.routine; place = p.place + 1 } in
-    let s = split_last xs (frame.Rest p scope) g in
-    let more : is_more (rest_at d p scope) ≡ true = settled_top d xs s.0 (frame.Rest p scope) s.1 h in
-    let lt : nat_lt p.place (length (body_of d p.routine)) ≡ true = more_rest p.place (body_of d p.routine) scope ∙ more in
-    let zs : slice_set xs (length xs - 1) (frame.Rest q scope) ≡ s.0 ++ frame.Rest q scope ∷ [] =
-    ap (λ (u : List Frame). slice_set u (length u - 1) (frame.Rest q scope)) s.1 ∙ slice_set-last s.0 (frame.Rest p scope) (frame.Rest q scope) in
-    left_rest d xs s.0 (slice_set xs (length xs - 1) (frame.Rest q scope)) p scope s.1 (below p.place (length (body_of d p.routine)) lt) zs
-  where
-    below : (n m : ℕ) → nat_lt n m ≡ true → n < m
-    below n m h = grind (arith, nat_tests)
-
-pub left_loop : (d : Parts) (xs ys : List Frame) (p : Position) (scope : Option Name) → xs ≡ ys ++ frame.Loop p scope ∷ [] → IsSettled d (reverse xs)
-    → todos_of d (reverse ys) ≡ drop 1 (todos_of d (reverse xs))
+pub left_loop : (d : Parts) (xs ys : List Frame) (p : Position) (scope : Option Name) → xs ≡ frame.Loop p scope ∷ ys → IsSettled d xs
+    → todos_of d ys ≡ drop 1 (todos_of d xs)
 left_loop d xs ys p scope e h = left_one d xs ys (frame.Loop p scope) e (by_stmt (stmt_at d p) (settled_top d xs ys (frame.Loop p scope) e h))
   where
     by_stmt : (o : Option Stmt) → is_more (turn_at o scope) ≡ true → (ts : List Todo) → ts ≡ drop 1 (turn_at o scope ++ ts)
     by_stmt None h ts = cc
     by_stmt (Some s) h ts = refl
 
-pub left_turns : (d : Parts) (xs ys : List Frame) (p : Position) (n : ℕ) (scope : Option Name) → xs ≡ ys ++ frame.Turns p n scope ∷ []
-    → IsSettled d (reverse xs) → todos_of d (reverse ys) ≡ drop 1 (todos_of d (reverse xs))
+pub left_turns : (d : Parts) (xs ys : List Frame) (p : Position) (n : ℕ) (scope : Option Name) → xs ≡ frame.Turns p n scope ∷ ys
+    → IsSettled d xs → todos_of d ys ≡ drop 1 (todos_of d xs)
 left_turns d xs ys p n scope e h = left_one d xs ys (frame.Turns p n scope) e (by_stmt (stmt_at d p) (settled_top d xs ys (frame.Turns p n scope) e h))
   where
     by_form : (at : Place) (f : Form) → is_more (turns_of at f n scope) ≡ true → (ts : List Todo) → ts ≡ drop 1 (turns_of at f n scope ++ ts)
@@ -224,8 +211,8 @@ left_turns d xs ys p n scope e h = left_one d xs ys (frame.Turns p n scope) e (b
     by_stmt None h ts = cc
     by_stmt (Some s) h ts = by_form s.at s.form h ts
 
-pub left_elements : (d : Parts) (xs ys : List Frame) (p : Position) (n : ℕ) (scope : Option Name) → xs ≡ ys ++ frame.Elements p n scope ∷ []
-    → IsSettled d (reverse xs) → todos_of d (reverse ys) ≡ drop 1 (todos_of d (reverse xs))
+pub left_elements : (d : Parts) (xs ys : List Frame) (p : Position) (n : ℕ) (scope : Option Name) → xs ≡ frame.Elements p n scope ∷ ys
+    → IsSettled d xs → todos_of d ys ≡ drop 1 (todos_of d xs)
 left_elements d xs ys p n scope e h =
     left_one d xs ys (frame.Elements p n scope) e (by_stmt (stmt_at d p) (settled_top d xs ys (frame.Elements p n scope) e h))
   where
@@ -233,8 +220,8 @@ left_elements d xs ys p n scope e h =
     by_stmt None h ts = cc
     by_stmt (Some s) h ts = refl
 
-pub left_put : (d : Parts) (xs ys : List Frame) (p : Position) (x : Val) (scope : Option Name) → xs ≡ ys ++ frame.Put p x scope ∷ []
-    → IsSettled d (reverse xs) → todos_of d (reverse ys) ≡ drop 1 (todos_of d (reverse xs))
+pub left_put : (d : Parts) (xs ys : List Frame) (p : Position) (x : Val) (scope : Option Name) → xs ≡ frame.Put p x scope ∷ ys
+    → IsSettled d xs → todos_of d ys ≡ drop 1 (todos_of d xs)
 left_put d xs ys p x scope e h = left_one d xs ys (frame.Put p x scope) e (by_stmt (stmt_at d p) (settled_top d xs ys (frame.Put p x scope) e h))
   where
     by_form : (at : Place) (f : Form) → is_more (put_of at f x scope) ≡ true → (ts : List Todo) → ts ≡ drop 1 (put_of at f x scope ++ ts)
@@ -245,8 +232,8 @@ left_put d xs ys p x scope e h = left_one d xs ys (frame.Put p x scope) e (by_st
     by_stmt None h ts = cc
     by_stmt (Some s) h ts = by_form s.at s.form h ts
 
-pub left_children : (d : Parts) (xs ys : List Frame) (p : Position) (scope : Option Name) → xs ≡ ys ++ frame.Children p scope ∷ []
-    → IsSettled d (reverse xs) → todos_of d (reverse ys) ≡ drop 1 (todos_of d (reverse xs))
+pub left_children : (d : Parts) (xs ys : List Frame) (p : Position) (scope : Option Name) → xs ≡ frame.Children p scope ∷ ys
+    → IsSettled d xs → todos_of d ys ≡ drop 1 (todos_of d xs)
 left_children d xs ys p scope e h = left_one d xs ys (frame.Children p scope) e (by_stmt (stmt_at d p) (settled_top d xs ys (frame.Children p scope) e h))
   where
     by_form : (at : Place) (f : Form) → is_more (children_of at f scope) ≡ true → (ts : List Todo) → ts ≡ drop 1 (children_of at f scope ++ ts)
@@ -257,8 +244,8 @@ left_children d xs ys p scope e h = left_one d xs ys (frame.Children p scope) e 
     by_stmt None h ts = cc
     by_stmt (Some s) h ts = by_form s.at s.form h ts
 
-pub left_called : (d : Parts) (xs ys : List Frame) (p : Position) (n : ℕ) (outer hidden : Option Name) → xs ≡ ys ++ frame.Called p n outer hidden ∷ []
-    → IsSettled d (reverse xs) → todos_of d (reverse ys) ≡ drop 1 (todos_of d (reverse xs))
+pub left_called : (d : Parts) (xs ys : List Frame) (p : Position) (n : ℕ) (outer hidden : Option Name) → xs ≡ frame.Called p n outer hidden ∷ ys
+    → IsSettled d xs → todos_of d ys ≡ drop 1 (todos_of d xs)
 left_called d xs ys p n outer hidden e h =
     left_one d xs ys (frame.Called p n outer hidden) e (by_stmt (stmt_at d p) (settled_top d xs ys (frame.Called p n outer hidden) e h))
   where
@@ -285,26 +272,22 @@ one_end d (Some s) n callee caller h ts = by_call (call_in s n) h
     by_call None h = cc
     by_call (Some c) h = by_form s.at c.result c.form h
 
-pub left_end : (d : Parts) (xs ys : List Frame) (p : Position) (n : Option ℕ) (callee caller : Option Name) → xs ≡ ys ++ frame.Leave p n callee caller ∷ []
-    → IsSettled d (reverse xs) → todos_of d (reverse ys) ≡ drop 1 (todos_of d (reverse xs))
+pub left_end : (d : Parts) (xs ys : List Frame) (p : Position) (n : Option ℕ) (callee caller : Option Name) → xs ≡ frame.Leave p n callee caller ∷ ys
+    → IsSettled d xs → todos_of d ys ≡ drop 1 (todos_of d xs)
 left_end d xs ys p n callee caller e h =
     left_one d xs ys (frame.Leave p n callee caller) e (one_end d (stmt_at d p) n callee caller (settled_top d xs ys (frame.Leave p n callee caller) e h))
 
--- whether something is left, by the number of entries
-pub more_left : (d : Parts) (xs : List Frame) → IsSettled d (reverse xs) → is_more (todos_of d (reverse xs)) ≡ not (length xs == 0)
-more_left d [] h = refl
-more_left d (x ∷ xs) h =
-    let l = last_of x xs in
-    let top = settled_top d (x ∷ xs) l.0 l.1 l.2 h in
-    ap (λ (u : List Frame). is_more (todos_of d (reverse u))) l.2 ∙ ap (λ u. is_more (todos_of d u)) (push_first l.0 l.1)
-    ∙ more_in (todos_in d l.1) (todos_of d (reverse l.0)) top ∙ not_zero (length xs)
+-- whether something is left, by the first entry
+pub more_left : (d : Parts) (xs : List Frame) (f : Frame) → xs ≡ f ∷ drop 1 xs → IsSettled d xs → is_more (todos_of d xs) ≡ true
+more_left d xs f e h =
+    ap (λ (u : List Frame). is_more (todos_of d u)) e ∙ more_in (todos_in d f) (todos_of d (drop 1 xs)) (settled_top d xs (drop 1 xs) f e h)
   where
-    not_zero : (n : ℕ) → true ≡ not (suc n == 0)
-    not_zero n = grind (arith, nat_tests)
-
     more_in : (ts us : List Todo) → is_more ts ≡ true → is_more (ts ++ us) ≡ true
     more_in [] us h = cc
     more_in (t ∷ ts) us h = refl
+
+pub none_left : (d : Parts) (xs : List Frame) → xs ≡ [] → is_more (todos_of d xs) ≡ false
+none_left d xs e = ap (λ (u : List Frame). is_more (todos_of d u)) e
 
 -- ---- the beginning of a routine
 

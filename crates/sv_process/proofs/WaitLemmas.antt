@@ -12,7 +12,7 @@ use Rattle.sv_flat.specs.declared.call.Call.{Call}
 use Rattle.sv_flat.specs.declared.stmt.Stmt.{Stmt}
 use Rattle.sv_flat.specs.declared.stmt.Form.TheVariants as form
 use Rattle.sv_flat.specs.declared.design.Parts.{Parts}
-use Rattle.sv_flat.specs.Expr.{Expr, Literal, Text, Object, Element, Select, Unary, Binary, Choose, Join, Repeat, Convert, Widen, Time, Length, Log2, Name, Printed}
+use Rattle.sv_flat.specs.Expr.{Expr, Literal, Text, Object, Element, Local, LocalElement, Select, Unary, Binary, Choose, Join, Repeat, Convert, Widen, Time, Length, Log2, Name, Printed}
 use Rattle.sv_flat.specs.State.{View, Name as Name_of}
 use Rattle.sv_flat.specs.Eval.{value_of, vector_in}
 use Rattle.sv_flat.specs.Process.{Todo, Do, Suspend, Watches, Effect}
@@ -21,7 +21,7 @@ use Rattle.sv_flat.specs.Statements.Events.{frozen, frozen_watch, frozen_watches
 use Rattle.sv_flat.specs.Statements.Shared.{goes_on, waits, value_in, from_result}
 use Rattle.sv_built.specs.declared.position.Position.{Position}
 use Rattle.sv_built.specs.declared.wait.Wait.TheVariants as wait
-use Rattle.sv_built.specs.Built.{IsStaticExpr, IsStaticOptional, IsBuiltWatch}
+use Rattle.sv_built.specs.Built.{IsBuiltExpr, IsBuiltOptional, IsBuiltWatch}
 use Rattle.sv_built.specs.Positions.{stmt_at}
 use Rattle.sv_built.specs.Waits.{control_of, condition_of, in_stmt, watches_at}
 use Rattle.sv_process.specs.declared.effect.Effect.{Effect as Own_effect}
@@ -69,13 +69,15 @@ delayed_by d fs es mid rest e v x in_ticks f valued does left h =
     subst (Leaves d fs es) (sym (ap (λ r. from_result r (λ n. waits rest (delayed (ticks_of in_ticks (vector_in n) v) v))) valued
     ∙ ap (λ us. waits rest us) does)) (subst (λ us. Leaves d fs es (waits us (effect_in d f ∷ []))) left h)
 
--- ---- what reads objects alone is as it is written
+-- ---- what reads nothing on the heap is as it is written
 
-pub frozen_same : (e : Expr) (v : View) → IsStaticExpr e → frozen e v ≡ e
+pub frozen_same : (e : Expr) (v : View) → IsBuiltExpr e → frozen e v ≡ e
 frozen_same (Literal x f) v h = refl
 frozen_same (Text b) v h = refl
 frozen_same (Object at o t) v h = refl
 frozen_same (Element at o b t i) v h = ap (λ j. Element at o b t j) (frozen_same i v h)
+frozen_same (Local up p t) v h = refl
+frozen_same (LocalElement up p b t i) v h = ap (λ j. LocalElement up p b t j) (frozen_same i v h)
 frozen_same (Select w o f x a i) v h = let p = frozen_same a v h.0 in let q = frozen_same i v h.1 in λ k. Select w o f x (p k) (q k)
 frozen_same (Unary op a) v h = ap (λ b. Unary op b) (frozen_same a v h)
 frozen_same (Binary op a b) v h = let p = frozen_same a v h.0 in let q = frozen_same b v h.1 in λ k. Binary op (p k) (q k)
@@ -92,7 +94,7 @@ frozen_same (Name is a) v h = ap (λ b. Name is b) (frozen_same a v h)
 frozen_same (Printed f p a) v h = ap (λ b. Printed f p b) (frozen_same a v h)
 frozen_same e v h = absurd h
 
-frozen_optional : (c : Option Expr) (v : View) → IsStaticOptional c → option_map (λ a. frozen a v) c ≡ c
+frozen_optional : (c : Option Expr) (v : View) → IsBuiltOptional c → option_map (λ a. frozen a v) c ≡ c
 frozen_optional None v h = refl
 frozen_optional (Some e) v h = ap Some (frozen_same e v h)
 
@@ -140,7 +142,7 @@ all_made [] = refl
 all_made (c ∷ cs) = all_made cs
 
 pub waits_on : (d : Parts) (fs mid left : List Frame) (es : List Own_effect) (rest : List Todo) (p : Position) (s : Stmt) (e : Expr) (outer scope : Option Name_of) (v : View)
-    (x : Val) (n : ℕ) → stmt_at d p ≡ Some s → s.form ≡ form.Wait e → IsStaticExpr e → n ≡ length s.calls → todos_of d left ≡ rest → mid ≡ frame.Called p n outer None ∷ left
+    (x : Val) (n : ℕ) → stmt_at d p ≡ Some s → s.form ≡ form.Wait e → IsBuiltExpr e → n ≡ length s.calls → todos_of d left ≡ rest → mid ≡ frame.Called p n outer None ∷ left
     → value_of e v ≡ Ok x → is_true (vector_in x) ≡ false → Leaves d fs es (waits (todos_of d mid) (effect_in d (effect.Watch (wait.Condition p) scope) ∷ []))
     → Leaves d fs es (value_in e v (waited s e outer scope v rest))
 waits_on d fs mid left es rest p s e outer scope v x n at is built count rests pushed valued false_is h =

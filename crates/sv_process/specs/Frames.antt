@@ -1,5 +1,5 @@
 -- What the entries of the stack of a process stand for.
-use Rattle.std.specs.Prelude.{ℕ, ◌≡◌, Bool, true, false, List, [], ◌∷◌, ◌++◌, Option, None, Some, drop, map}
+use Rattle.std.specs.Prelude.{ℕ, ◌≡◌, ◌+◌, Bool, true, false, List, [], ◌∷◌, ◌++◌, Option, None, Some, drop, map}
 use Rattle.sv_value.specs.declared.place.Place.{Place}
 use Rattle.sv_value.specs.declared.number.RoutineId.{RoutineId}
 use Rattle.sv_value.specs.declared.val.Val.{Val}
@@ -163,3 +163,13 @@ step_in d f = None
 abbrev pub is_end : Parts → Frame → Bool
 is_end d (frame.Leave p n callee caller) = is_more (end_at d (stmt_at d p) n callee caller)
 is_end d f = false
+
+-- one for an entry that ends a call, whether or not the call stands there
+abbrev pub ends_in : Frame → ℕ
+ends_in (frame.Leave p n callee caller) = 1
+ends_in f = 0
+
+-- how many entries end calls
+abbrev pub ends_of : List Frame → ℕ
+ends_of [] = 0
+ends_of (f ∷ fs) = ends_in f + ends_of fs

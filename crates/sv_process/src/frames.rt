@@ -9,9 +9,10 @@ ghost use Rattle.sv_built.specs.Positions.{stmt_at};
 ghost use Rattle.sv_flat.specs.Statements.Jumps.{open_calls};
 ghost use Rattle.sv_process.specs.declared.frames.Frame.TheVariants.{Rest};
 ghost use Rattle.sv_process.specs.Calls.{called_at, end_at, end_of_call};
-ghost use Rattle.sv_process.specs.Frames.{todos_in, todos_of, turn_at, turns_at, elements_at, put_at, children_at, scope_in, is_end, is_more, IsFirst, IsSettled};
+ghost use Rattle.sv_process.specs.Frames.{todos_in, todos_of, turn_at, turns_at, elements_at, put_at, children_at, scope_in, ends_in, is_end, is_more, IsFirst, IsSettled};
 
 use crate::routines::{call_of, subroutine_of};
+use smallvec::SmallVec;
 use std::alloc::Global;
 use std::marker::Model;
 use sv_arena::Name;
@@ -74,6 +75,19 @@ pub enum Frame {
     },
 }
 
+/// What stands in the room of a stack that is not used.
+impl Default for Frame {
+    fn default() -> Self {
+        Frame::Rest {
+            at: Position {
+                routine: RoutineId(0),
+                place: 0,
+            },
+            scope: None,
+        }
+    }
+}
+
 impl Drop for Frame {
     fn drop(self) {
         match self {
@@ -111,19 +125,25 @@ impl Drop for Frame {
     }
 }
 
-/// What a process has still to run, innermost last. It is seen as the list of its entries, innermost first.
+/// What a process has still to run, innermost last. It is seen as the list of its entries, innermost first. Most processes have one
+/// or two, which need no memory of their own.
 #[derive(Drop)]
 pub struct Frames {
-    stack: Vec<Frame>,
+    stack: SmallVec<Frame, 2>,
+    /// How many of the entries end calls.
+    calls: usize,
 }
 
 impl Model for Frames {
-    ghost use Rattle.std.specs.Prelude.{List, reverse};
+    ghost use Rattle.std.specs.Prelude.{◌≡◌, List, reverse};
     ghost use Rattle.sv_process.specs.declared.frames.Frame.{Frame};
+    ghost use Rattle.sv_process.specs.Frames.{ends_of};
 
     ghost Value = { List Frame };
 
     ghost view = { λ f. reverse f.stack.items };
+
+    ghost invariant = { λ f. f.calls ≡ ends_of (reverse f.stack.items) };
 }
 
 impl Frames {
@@ -133,12 +153,12 @@ impl Frames {
         ensures entry { IfOk result (λ f. f ≡ Rest (record { routine = routine; place = 0 }) scope ∷ []) }
         ensures todos { IfOk result (λ f. (d : Parts) → todos_of d f ≡ body_in d routine scope) }
     {
-        let mut stack = Vec::new(alloc);
+        let mut stack = SmallVec::new(alloc);
         stack.push(Frame::Rest {
             at: Position { routine, place: 0 },
             scope,
         })?;
-        Ok(Frames { stack })
+        Ok(Frames { stack, calls: 0 })
     }
 
     /// Nothing is left.
@@ -146,6 +166,7 @@ impl Frames {
         ensures { self.new ≡ [] }
     {
         self.stack.clear();
+        self.calls = 0;
     }
 
     /// From the beginning of a routine, outside of all activations, with nothing else left.
@@ -163,7 +184,10 @@ impl Frames {
     pub fn push(&mut self, frame: Frame) -> Result<(), NoMemory>
         ensures { OnOk result (self.new ≡ frame ∷ self.old) }
     {
+        let ends = ends_in(&frame);
         self.stack.push(frame)?;
+        let _entries = self.stack.len();
+        self.calls += ends;
         Ok(())
     }
 
@@ -173,7 +197,9 @@ impl Frames {
         ensures none { IfNone result ((self.old ≡ []) × (self.new ≡ [])) }
         ensures fewer { IfSome result (λ _. length self.new < length self.old) }
     {
-        self.stack.pop()
+        let frame = self.stack.pop()?;
+        self.calls -= ends_in(&frame);
+        Some(frame)
     }
 
     /// A routine comes before the others, to run in a scope.
@@ -190,23 +216,32 @@ impl Frames {
     pub fn settle(&mut self, design: &Design)
         ensures { todos_of design.now self.new ≡ todos_of design.now self.old }
     {
-        settle(&mut self.stack, design);
+        settle(self, design);
     }
 
     /// The entry that comes first.
+    #[tactic(auto, using(crate::proofs::FrameLemmas::first_entry))]
     pub fn first(&self) -> Option<&Frame>
         ensures some { IfSome result (λ f. (d : Parts) → IsFirst d f.now (todos_of d self.now)) }
         ensures none { IfNone result (self.now ≡ []) }
     {
-        first_of(&self.stack)
+        self.innermost()
+    }
+
+    /// The innermost entry.
+    fn innermost(&self) -> Option<&Frame>
+        ensures some { IfSome result (λ f. self.now ≡ f.now ∷ drop 1 self.now) }
+        ensures none { IfNone result (self.now ≡ []) }
+    {
+        last_of(&self.stack)
     }
 
     /// Leaves what comes first.
     pub fn leave_first(&mut self, design: &Design) -> Result<(), NoMemory>
         ensures { OnOk result (todos_of design.now self.new ≡ drop 1 (todos_of design.now self.old)) }
     {
-        settle(&mut self.stack, design);
-        leave_top(&mut self.stack, design)
+        settle(self, design);
+        leave_top(self, design)
     }
 
     /// Whether no other call may be opened.
@@ -214,19 +249,33 @@ impl Frames {
     pub fn is_deep(&self, design: &Design) -> bool
         ensures { result ≡ nat_le 1000 (open_calls (todos_of design.now self.now)) }
     {
-        if self.stack.len() < 1000 {
+        if self.calls < 1000 {
             return false;
         }
         1000 <= open_calls(self.stack.as_slice(), design)
     }
 
     /// Whether something is left.
+    #[tactic(auto, using(crate::proofs::FrameLemmas::more_left, crate::proofs::FrameLemmas::none_left))]
     pub fn is_more(&mut self, design: &Design) -> bool
         ensures same { todos_of design.now self.new ≡ todos_of design.now self.old }
         ensures more { result ≡ is_more (todos_of design.now self.new) }
     {
-        settle(&mut self.stack, design);
-        !self.stack.is_empty()
+        settle(self, design);
+        match self.innermost() {
+            Some(_) => true,
+            None => false,
+        }
+    }
+}
+
+/// One for an entry that ends a call.
+fn ends_in(frame: &Frame) -> usize
+    ensures { result ≡ ends_in frame.now }
+{
+    match frame {
+        Frame::Leave { .. } => 1,
+        _ => 0,
     }
 }
 
@@ -355,25 +404,26 @@ fn open_calls(stack: &[Frame], design: &Design) -> usize
 }
 
 /// Drops the entries of which nothing is left.
-fn settle(stack: &mut Vec<Frame>, design: &Design)
-    ensures same { todos_of design.now (reverse stack.new.items) ≡ todos_of design.now (reverse stack.old.items) }
-    ensures settled { IsSettled design.now (reverse stack.new.items) }
+#[tactic(auto, using(crate::proofs::FrameLemmas::settled_first, crate::proofs::FrameLemmas::settled_none))]
+fn settle(frames: &mut Frames, design: &Design)
+    ensures same { todos_of design.now frames.new ≡ todos_of design.now frames.old }
+    ensures settled { IsSettled design.now frames.new }
 {
-    while let Some(top) = stack.last() {
+    while let Some(top) = frames.innermost() {
         if is_live(top, design) {
             return;
         }
-        stack.pop();
+        frames.pop();
     }
 }
 
-/// The entry that comes first.
-#[tactic(auto, using(crate::proofs::FrameLemmas::first_entry, crate::proofs::FrameLemmas::no_entry))]
-fn first_of(stack: &Vec<Frame>) -> Option<&Frame>
-    ensures some { IfSome result (λ f. (d : Parts) → IsFirst d f.now (todos_of d (reverse stack.now.items))) }
+/// The last entry of a stack.
+#[tactic(auto, using(crate::proofs::FrameLemmas::last_first, crate::proofs::FrameLemmas::no_entry))]
+fn last_of(stack: &SmallVec<Frame, 2>) -> Option<&Frame>
+    ensures some { IfSome result (λ f. reverse stack.now.items ≡ f.now ∷ drop 1 (reverse stack.now.items)) }
     ensures none { IfNone result (reverse stack.now.items ≡ []) }
 {
-    stack.last()
+    stack.as_slice().last()
 }
 
 /// The scope in which the statements of an entry run.
@@ -396,29 +446,26 @@ pub fn scope_in(frame: &Frame) -> Option<Name>
 }
 
 /// Leaves what comes first. Memory is wanting where no number is left for the next place.
-#[tactic(auto, using(crate::proofs::FrameLemmas::left_rest_set, crate::proofs::FrameLemmas::left_loop, crate::proofs::FrameLemmas::left_turns, crate::proofs::FrameLemmas::left_elements, crate::proofs::FrameLemmas::left_put, crate::proofs::FrameLemmas::left_children, crate::proofs::FrameLemmas::left_called, crate::proofs::FrameLemmas::left_end))]
-fn leave_top(stack: &mut Vec<Frame>, design: &Design) -> Result<(), NoMemory>
-    requires { IsSettled design.now (reverse stack.old.items) }
-    ensures { OnOk result (todos_of design.now (reverse stack.new.items) ≡ drop 1 (todos_of design.now (reverse stack.old.items))) }
+#[tactic(auto, using(crate::proofs::FrameLemmas::left_rest, crate::proofs::FrameLemmas::left_loop, crate::proofs::FrameLemmas::left_turns, crate::proofs::FrameLemmas::left_elements, crate::proofs::FrameLemmas::left_put, crate::proofs::FrameLemmas::left_children, crate::proofs::FrameLemmas::left_called, crate::proofs::FrameLemmas::left_end))]
+fn leave_top(frames: &mut Frames, design: &Design) -> Result<(), NoMemory>
+    requires { IsSettled design.now frames.old }
+    ensures { OnOk result (todos_of design.now frames.new ≡ drop 1 (todos_of design.now frames.old)) }
 {
     let _ = design;
-    match stack.last() {
-        Some(Frame::Rest { at, scope }) => {
+    let Some(frame) = frames.pop() else {
+        return Ok(());
+    };
+    match &frame {
+        Frame::Rest { at, scope } => {
             let Some(place) = at.place.checked_add(1) else {
                 return Err(NoMemory::Memory);
             };
             let routine = at.routine;
-            let next = Frame::Rest {
+            frames.push(Frame::Rest {
                 at: Position { routine, place },
                 scope: *scope,
-            };
-            let last = stack.len() - 1;
-            stack[last] = next;
-            Ok(())
+            })
         }
-        _ => {
-            stack.pop();
-            Ok(())
-        }
+        _ => Ok(()),
     }
 }

@@ -11,7 +11,7 @@ ghost use Rattle.sv_flat.specs.Process.{Suspend, Watches, Do};
 ghost use Rattle.sv_flat.specs.Statements.Delays as delays;
 ghost use Rattle.sv_flat.specs.Statements.Events.{frozen, frozen_watches};
 ghost use Rattle.sv_flat.specs.Statements.Shared.{goes_on, waits, value_in};
-ghost use Rattle.sv_built.specs.Built.{IsStaticExpr, IsBuiltWatch};
+ghost use Rattle.sv_built.specs.Built.{IsBuiltExpr, IsBuiltWatch};
 ghost use Rattle.sv_built.specs.Positions.{stmt_at};
 ghost use Rattle.sv_process.specs.Frames.{todos_of};
 ghost use Rattle.sv_process.specs.Effects.{Leaves, Does, IsKept, effect_in};
@@ -141,7 +141,7 @@ pub fn run_wait<V: Values>(
     requires first { out.old.items ≡ [] }
     requires at { stmt_at design.now at ≡ Some stmt.now }
     requires is { stmt.now.form ≡ form.Wait condition.now }
-    requires built { IsStaticExpr condition.now }
+    requires built { IsBuiltExpr condition.now }
     ensures does { Does design.now result frames.new out.new.items (value_in condition.now (V.view values.now) (λ x.
         if operators.is_true (eval.vector_in x) then goes_on (drop 1 (todos_of design.now frames.old)) []
         else waits (Do stmt.now [] outer None ∷ drop 1 (todos_of design.now frames.old))

@@ -1,34 +1,68 @@
--- What callers know of a change: the values but for those of the changed object, and each wait after it.
-use Rattle.std.proofs.Common.{◌≡◌, ◌≢◌, ℕ, zero, suc, Bool, List, [], ◌∷◌, Option, None, Some, refl, ap}
-use Rattle.std.specs.Prelude.{slice_get, slice_index_or, if◌then◌else◌}
+-- What a change leaves as it was: the values of all objects but one, or those of all objects; and each wait after it.
+use Rattle.std.proofs.Common.{◌≡◌, ◌≢◌, ℕ, zero, suc, Bool, true, false, List, [], ◌∷◌, Option, None, Some, refl, ap, arith}
+use Rattle.std.specs.Prelude.{slice_get, ◌==◌, if◌then◌else◌}
+use Rattle.std.proofs.lemmas.Bool.Decides.{nat_tests}
 use Rattle.sv_value.specs.declared.number.ObjId.{ObjId}
-use Rattle.sv_flat.specs.Effects.Writes.{changed_at}
-use Rattle.sv_flat.specs.State.{Name, Stored, Elements, Store, World, element_of, view_of}
-use Rattle.sv_built.specs.declared.wait.Wait.{Wait}
-use Rattle.sv_sense.specs.Wakes.{SameBut, waits_after}
+use Rattle.sv_value.specs.declared.val.Val.{Val}
+use Rattle.sv_flat.specs.State.{Activation, Name, Store, View, value_at}
+use Rattle.sv_store.specs.declared.change.Overwritten.{Overwritten}
+use Rattle.sv_store.specs.Overwrites.{object_before, value_before}
+use Rattle.sv_assign.specs.Seen.{Change, Of_object, Of_variable, change_in, view_before, view_in}
+use Rattle.sv_assign.specs.declared.seen.Before.{Before}
+use Rattle.sv_sense.specs.declared.waiter.Waiter.{Waiter}
+use Rattle.sv_sense.specs.Wakes.{Scenes, scenes_before, scenes_after, waits_after}
 
-changed_other : (s : Store) (i j : ℕ) (f : Stored → Stored) (d : Stored) → j ≢ i → slice_index_or s j d ≡ slice_index_or (changed_at s i f) j d
-changed_other [] i j f d h = refl
-changed_other (x ∷ s) zero zero f d h = absurd (h refl)
-changed_other (x ∷ s) zero (suc j) f d h = refl
-changed_other (x ∷ s) (suc i) zero f d h = refl
-changed_other (x ∷ s) (suc i) (suc j) f d h = changed_other s i j f d (λ e. h (ap suc e))
+-- ---- what is seen
+
+-- the values are the same, but for those of one object
+pub record SameBut (o : ObjId) (old new : View) : Type 0 where
+  pub object : (p : ObjId) → p.0 ≢ o.0 → old.object p ≡ new.object p
+  pub variable : old.variable ≡ new.variable
+  pub name : old.name ≡ new.name
+  pub heap : old.heap ≡ new.heap
+  pub now : old.now ≡ new.now
+  pub unit : old.unit ≡ new.unit
+
+-- the same objects are seen, at one time
+pub record SeesSame (old new : View) : Type 0 where
+  pub object : old.object ≡ new.object
+  pub now : old.now ≡ new.now
+  pub unit : old.unit ≡ new.unit
 
 -- a write of an object changes the values of no other
-pub same_but : (o : ObjId) (w : World) (f : Stored → Stored) (now unit : ℕ) (scope : Option Name)
-    → SameBut o (view_of w now unit scope) (view_of (record w { store = changed_at w.store o.0 f }) now unit scope)
-same_but o w f now unit scope = record {
-  object = λ p other. ap (λ (x : Stored). λ (i : ℕ). element_of x i) (changed_other w.store o.0 p.0 f (Elements []) other);
-  variable = refl;
-  name = refl;
-  heap = refl;
-  now = refl;
-  unit = refl;
-}
+pub object_changed : (w : Overwritten) (s : Store) (as' : List Activation) (now unit : ℕ) (scope : Option Name)
+    → SameBut w.object (view_before (Of_object w) s as' now unit scope) (view_in s as' now unit scope)
+object_changed w s as' now unit scope = record { object = λ p h. other p h; variable = refl; name = refl; heap = refl; now = refl; unit = refl }
+  where
+    other : (p : ObjId) → p.0 ≢ w.object.0 → object_before w s p ≡ value_at s p
+    other p h i j = at_test (p.0 == w.object.0) refl i
+      where
+        at_test : (b : Bool) → (p.0 == w.object.0) ≡ b → (if b then value_before w s j else value_at s p j) ≡ value_at s p j
+        at_test true e = absurd (h (grind (arith, nat_tests)))
+        at_test false e = refl
+
+-- a write of a variable of an activation changes no object
+pub variable_changed : (n : Name) (p : ℕ) (x : Val) (s : Store) (as' : List Activation) (now unit : ℕ) (scope : Option Name)
+    → SeesSame (view_before (Of_variable n p x) s as' now unit scope) (view_in s as' now unit scope)
+variable_changed n p x s as' now unit scope = record { object = refl; now = refl; unit = refl }
+
+-- these were seen before a change, and those after it
+abbrev pub IsChange : Change → Scenes → Scenes → Type 0
+IsChange (Of_object w) old new = (scope : Option Name) → SameBut w.object (old scope) (new scope)
+IsChange (Of_variable n p x) old new = (scope : Option Name) → SeesSame (old scope) (new scope)
+
+pub is_change : (b : Before) → IsChange (change_in b.change.now) (scenes_before b) (scenes_after b)
+is_change b = by_change (change_in b.change.now)
+  where
+    by_change : (k : Change) → IsChange k (λ scope. view_before k b.store.now b.activations.now.activations b.time b.unit scope) (scenes_after b)
+    by_change (Of_object w) = object_changed w b.store.now b.activations.now.activations b.time b.unit
+    by_change (Of_variable n p x) = variable_changed n p x b.store.now b.activations.now.activations b.time b.unit
+
+-- ---- each wait
 
 -- a process that was woken waits no longer, and each other waits as before
-pub after_at : (t : Option Wait → Bool) (ws : List (Option Wait)) (i : ℕ) (w : Option Wait) → slice_get ws i ≡ Some w
+pub after_at : (t : Option Waiter → Bool) (ws : List (Option Waiter)) (i : ℕ) (w : Option Waiter) → slice_get ws i ≡ Some w
     → slice_get (waits_after t ws) i ≡ Some (if t w then None else w)
 after_at t [] i w e = absurd (cc)
-after_at t (v ∷ ws) zero w e = (let z : v ≡ w = cc in ap (λ (x : Option Wait). Some (if t x then None else x)) z)
+after_at t (v ∷ ws) zero w e = (let z : v ≡ w = cc in ap (λ (x : Option Waiter). Some (if t x then None else x)) z)
 after_at t (v ∷ ws) (suc i) w e = after_at t ws i w e

@@ -10,12 +10,13 @@ use Rattle.sv_flat.specs.Expr.{Expr, Object, Local, Field, Static}
 use Rattle.sv_flat.specs.Eval.{Valued, value_of}
 use Rattle.sv_flat.specs.State.{View}
 use Rattle.sv_flat.specs.Woken.{Changed, fired, both_make, content_of, contents_differ, some_fires}
-use Rattle.sv_built.specs.Built.{IsStaticExpr}
+use Rattle.sv_built.specs.Built.{IsBuiltExpr}
 
--- a static expression names no container
-content_none : (e : Expr) → IsStaticExpr e → (v : View) → content_of e v ≡ None
+-- a built expression names no container
+content_none : (e : Expr) → IsBuiltExpr e → (v : View) → content_of e v ≡ None
 content_none (Object at o (type.Plain t)) h v = refl
 content_none (Object at o t) h v = absurd h
+content_none (Local u p (type.Plain t)) h v = refl
 content_none (Local u p t) h v = absurd h
 content_none (Field p t e) h v = absurd h
 content_none (Static r m) h v = absurd h
@@ -35,7 +36,7 @@ no_trigger (Ok x) (Err k) = refl
 no_trigger (Err k) y = refl
 
 -- it fires by its values alone
-pub fired_is : (g : Edge) (e : Expr) → IsStaticExpr e → (old new : View) → fired g e Changed old new ≡ both_make g (value_of e old) (value_of e new)
+pub fired_is : (g : Edge) (e : Expr) → IsBuiltExpr e → (old new : View) → fired g e Changed old new ≡ both_make g (value_of e old) (value_of e new)
 fired_is edge.Change e h old new =
     ap (λ (k : Option Container). both_make edge.Change (value_of e old) (value_of e new) || contents_differ k (content_of e new)) (content_none e h old)
     ∙ or_false (both_make edge.Change (value_of e old) (value_of e new))

@@ -1,5 +1,6 @@
 -- ---- what is read
 pub mod Objects
+pub mod Scoped
 -- ---- who is tried, and who is woken
 pub mod Watchers
 pub mod Wakes

@@ -1,15 +1,14 @@
 // Whether a change fires what a process waits for (IEEE 1800-2017, 9.4.2, 9.4.3, 9.2.2.2 and 10.3).
-ghost use Rattle.std.specs.Prelude.{◌≡◌, IfOk, Some};
+ghost use Rattle.std.specs.Prelude.{◌≡◌, IfOk};
 ghost use Rattle.std.specs.List.{AllByRecursion};
 ghost use Rattle.sv_value.specs.Operators as operators;
 ghost use Rattle.sv_flat.specs.Eval as eval;
 ghost use Rattle.sv_flat.specs.Eval.{Valued};
 ghost use Rattle.sv_flat.specs.Woken as woken;
 ghost use Rattle.sv_flat.specs.Woken.{Changed};
-ghost use Rattle.sv_built.specs.Built.{IsBuilt, IsStaticExpr, IsBuiltWatch};
-ghost use Rattle.sv_built.specs.Waits.{control_of, condition_of};
+ghost use Rattle.sv_built.specs.Built.{IsBuilt, IsBuiltExpr, IsBuiltWatch};
+ghost use Rattle.sv_built.specs.Waits.{control_of, condition_of, watches_at};
 ghost use Rattle.sv_eval.specs.Evaluates.{Evaluates};
-ghost use Rattle.sv_sense.specs.Wakes.{fires_at};
 
 use crate::edges::{both_make, makes_none};
 use std::alloc::Global;
@@ -29,7 +28,7 @@ fn fired<V: Values, W: Values>(
     old: &V,
     new: &W,
 ) -> Result<bool, NoMemory>
-    requires { IsStaticExpr expr.now }
+    requires { IsBuiltExpr expr.now }
     ensures { IfOk result (λ b. b ≡ woken.fired edge expr.now Changed (V.view old.now) (W.view new.now)) }
 {
     let after = value(alloc, new, expr);
@@ -164,7 +163,7 @@ pub(crate) fn wait_fires<V: Values, W: Values>(
     new: &W,
 ) -> Result<bool, NoMemory>
     requires { IsBuilt design.now }
-    ensures { IfOk result (λ b. b ≡ fires_at design.now (V.view old.now) (W.view new.now) (Some wait)) }
+    ensures { IfOk result (λ b. b ≡ woken.some_fires (watches_at design.now wait) Changed (V.view old.now) (W.view new.now)) }
 {
     match wait {
         Wait::Control(at) => match design.body(at.routine).get(at.place) {

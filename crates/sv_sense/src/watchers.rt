@@ -1,4 +1,4 @@
-// Processes by number: those that watch an object.
+// Processes by number: those that watch an object, or variables of activations.
 ghost use Rattle.std.specs.Prelude.{◌≡◌, ◌<◌, ◌≤◌, ◌^◌, length, IfOk, OnOk, [], true, slice_get};
 ghost use Rattle.sv_value.specs.declared.number.ProcessId.{ProcessId as process_id};
 ghost use Rattle.sv_flat.specs.Effects.{is_in};

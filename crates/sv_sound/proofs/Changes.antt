@@ -10,14 +10,14 @@ use Rattle.sv_value.specs.declared.schedule.Due.TheVariants.{Work}
 use Rattle.sv_value.specs.Regions.{ready_in, front_of, job_in, updates_of}
 use Rattle.sv_flat.specs.declared.process.Process.{Process}
 use Rattle.sv_flat.specs.declared.design.Parts.{Parts}
-use Rattle.sv_flat.specs.State.{Store, Activation}
+use Rattle.sv_flat.specs.State.{Store, World, Activation}
 use Rattle.sv_flat.specs.Process.{ProcessState, Status, Ready, Waiting, Watches, Children}
 use Rattle.sv_flat.specs.Config.{Config, process_at, first_process, set_at, side_in, numbered_from, state_test, made_ready, all_made_ready}
 use Rattle.sv_flat.specs.Woken.{Changed, wakes, is_woken}
 use Rattle.sv_flat.specs.Effects.Ends.{is_ended}
 use Rattle.sv_flat.specs.Effects.Scheduling.{scheduled, update_scheduled}
 use Rattle.sv_sound.specs.Sound.{IsStateOf, is_held, IsForked, AreRelated, IsSound, IsPlainTodo, AreAwaited, IsPlainEvent, IsPlainJob, AreStates, is_pending, is_parked, weight, weight_of_all, weight_of_event, IsMadeBy}
-use Rattle.sv_sound.specs.After.{with_store, changed_to, with_activations}
+use Rattle.sv_sound.specs.After.{with_values, changed_in, with_store, with_activations}
 use Rattle.sv_sound.proofs.Weights.{all_append, pushed_weight, ready_weight, job_weight, parked_done, one, known_of, all_still}
 use Rattle.sv_sound.proofs.Plain.{plain_ready, plain_job, plain_update}
 use Rattle.sv_sound.proofs.States.{IsPlainState, states_few, state_plain, state_found, state_forked, set_free, pending_same}
@@ -105,7 +105,7 @@ module _ (d : Parts) (c : Config) (k : IsSound d c) where
     weights = k.weights;
   }
 
-  -- other values
+  -- other values of objects
   pub store_sound : (s : Store) → IsSound d (with_store s c)
   store_sound s = record {
     no_heap = k.no_heap;
@@ -181,10 +181,10 @@ module _ (d : Parts) where
       by_state (Some q) h = wakes_watching old new q.latest h
 
   -- a change leaves what is sound sound
-  pub change_sound : (s : Store) (c : Config) → IsSound d c → IsSound d (changed_to d s c)
-  change_sound s c k =
-      let new = with_store s c in
-      woken_sound (λ p. state_test (is_woken d Changed c new) (process_at c p)) 0 c.processes new (store_sound d c k s) (λ p l t. woken_watches c new p t)
+  pub change_sound : (w : World) (c : Config) → IsSound d c → IsSound d (with_values w c) → IsSound d (changed_in d w c)
+  change_sound w c k h =
+      let new = with_values w c in
+      woken_sound (λ p. state_test (is_woken d Changed c new) (process_at c p)) 0 c.processes new h (λ p l t. woken_watches c new p t)
 
 -- ---- jobs
 

@@ -6,6 +6,8 @@ use Rattle.std.proofs.lemmas.Bool.Decides.{nat_tests}
 use Rattle.sv_value.specs.declared.number.ProcessId.{ProcessId}
 use Rattle.sv_value.specs.declared.place.Place.{Place}
 use Rattle.sv_value.specs.declared.place.FaultKind.TheVariants as fault
+use Rattle.sv_value.specs.declared.val.Val.{Val}
+use Rattle.sv_value.specs.declared.schedule.Range.{Range}
 use Rattle.sv_value.specs.declared.schedule.Event.{Event}
 use Rattle.sv_value.specs.declared.schedule.Due.TheVariants.{Resume}
 use Rattle.sv_value.specs.Regions.{front_of, idle_of}
@@ -16,7 +18,7 @@ use Rattle.sv_flat.specs.declared.process.ProcessKind.TheVariants as kind
 use Rattle.sv_flat.specs.declared.process.Watch.{Watch}
 use Rattle.sv_flat.specs.declared.stmt.PrintKind.TheVariants as print
 use Rattle.sv_flat.specs.declared.design.Parts.{Parts}
-use Rattle.sv_flat.specs.State.{Name}
+use Rattle.sv_flat.specs.State.{Store, Name}
 use Rattle.sv_flat.specs.Process
 use Rattle.sv_flat.specs.Process.{ProcessState, Status, Ready, Waiting, Moment, Turn_in_slot, Watches, Start, Todo, Spot, Cell, Variable_of, Effect, Remain, Enter, Write, Suspend, Resume_at, Update_at, Spawn, Await_children, End_descendants, Print_text, Keep_print, Finish_run, End, Fail, body_in, Spawn}
 use Rattle.sv_flat.specs.Config.{Config, process_at, first_process, met_fault}
@@ -25,12 +27,12 @@ use Rattle.sv_flat.specs.Effects.Ends.{is_running, descendants}
 use Rattle.sv_flat.specs.Effects.Writes.{variable_over}
 use Rattle.sv_built.specs.Built.{IsBuiltProcess, IsBuiltWatch, IsBuilt}
 use Rattle.sv_sound.specs.Sound.{IsSound, IsPlainTodo, IsPlainEvent, IsPlainEffect, weight_of_event, weight_of_running, IsMadeBy}
-use Rattle.sv_sound.specs.After.{with_state, waiting_until, turned, watching, store_after, entered_by, entering}
+use Rattle.sv_sound.specs.After.{with_state, waiting_until, turned, watching, changed_to, store_after, with_activations, entered_by, entering}
 use Rattle.sv_sound.proofs.Weights.{all_append, all_at, there, pushed_weight, ready_weight}
 use Rattle.sv_sound.proofs.Plain.{body_plain, plain_ready, plain_later}
 use Rattle.sv_sound.proofs.States.{not_parked}
 use Rattle.sv_sound.proofs.Related.{no_children, made_over, length_set}
-use Rattle.sv_sound.proofs.Changes.{found_at, forked_at, await_built, activations_sound, store_sound, change_sound, scheduled_sound}
+use Rattle.sv_sound.proofs.Changes.{found_at, forked_at, activations_sound, store_sound, change_sound, scheduled_sound}
 use Rattle.sv_sound.proofs.Running.{running_known, runs_calm, rest_plain, state_sound, remain_sound, parks_sound}
 use Rattle.sv_sound.proofs.Ended.{ended_sound, join_sound}
 use Rattle.sv_sound.proofs.Descendants.{all_may_end, all_ended_sound}
@@ -118,14 +120,22 @@ module _ (d : Parts) (c : Config) (k : IsSound d c) (p : ProcessId) (r : c.runni
         by_first None e = subst (IsSound d) (sym (end_forked d b.no_clockings at p c e)) (join_sound d c k p r q is (forked_at d c k p q e is).forked)
         by_first (Some f) e = by_kind f e (all_at IsBuiltProcess d.processes p.0 f e b.each_process) (body_plain d b f.body None) f.kind refl
 
+    -- other values of objects, with those whom the change wakes
+    store_changes : (s : Store) → IsSound d (changed_to d s c)
+    store_changes s = change_sound d (record c.world { store = s }) c k (store_sound d c k s)
+
+    -- a variable of an activation
+    variable_sound : (n : Name) (i : ℕ) (o : Option Range) (x : Val) → IsSound d (with_activations (variable_over n i o x c.activations) c)
+    variable_sound n i o x = activations_sound d c k (variable_over n i o x c.activations) (made_over c.processes n i o x c.activations k.made)
+
     -- each effect
     pub effect_sound : IsBuilt d → (at : Place) (e : Effect) → IsPlainEffect e → IsSound d (occurred d at p e c)
     effect_sound b at (Remain rest) h = subst (IsSound d) (sym (remain_is d b.no_clockings at p c q is rest)) (remain_sound d c k p r q is rest h)
     effect_sound b at (Enter ts around) h = subst (IsSound d) (sym (enter_is d b.no_clockings at p c q is ts h around)) (enter_sound at ts around)
-    effect_sound b at (Write (Cell o i r) x) h = subst (IsSound d) (sym (effect_write_is d b.no_clockings at p c (Cell o i r) tt x)) (change_sound d (store_after (Cell o i r) x c.store) c k)
-    effect_sound b at (Write Process.Nowhere x) h = subst (IsSound d) (sym (effect_write_is d b.no_clockings at p c Process.Nowhere tt x)) (change_sound d c.store c k)
+    effect_sound b at (Write (Cell o i r) x) h = subst (IsSound d) (sym (effect_write_is d b.no_clockings at p c (Cell o i r) tt x)) (store_changes (store_after (Cell o i r) x c.store))
+    effect_sound b at (Write Process.Nowhere x) h = subst (IsSound d) (sym (effect_write_is d b.no_clockings at p c Process.Nowhere tt x)) (store_changes c.store)
     effect_sound b at (Write (Variable_of n i r) x) h =
-        subst (IsSound d) (sym (variable_write_is d b.no_clockings at p c (await_built d c k) n i r x)) (activations_sound d c k (variable_over n i r x c.activations) (made_over c.processes n i r x c.activations k.made))
+        subst (IsSound d) (sym (variable_write_is d b.no_clockings at p c n i r x)) (change_sound d (record c.world { activations = variable_over n i r x c.activations }) c k (variable_sound n i r x))
     effect_sound b at (Suspend Turn_in_slot) h = subst (IsSound d) (sym (turn_is d b.no_clockings at p c q is)) turn_sound
     effect_sound b at (Suspend (Watches ws scope)) h =
         subst (IsSound d) (sym (watch_is d b.no_clockings at p c q is ws scope)) (watch_sound ws h scope q.rest (rest_plain d c k p r q is))
@@ -147,7 +157,7 @@ module _ (d : Parts) (c : Config) (k : IsSound d c) (p : ProcessId) (r : c.runni
     pub applied_sound : IsBuilt d → (at : Place) (e : Effect) → IsPlainEffect e → IsSound d (applied d at p e c)
     applied_sound b at (Write (Cell o i r) x) h = store_sound d c k (store_after (Cell o i r) x c.store)
     applied_sound b at (Write Process.Nowhere x) h = k
-    applied_sound b at (Write (Variable_of n i r) x) h = activations_sound d c k (variable_over n i r x c.activations) (made_over c.processes n i r x c.activations k.made)
+    applied_sound b at (Write (Variable_of n i r) x) h = variable_sound n i r x
     applied_sound b at (Write s x) h = absurd h
     applied_sound b at (Process.Contain g q) h = absurd h
     applied_sound b at (Process.Serve g m) h = absurd h

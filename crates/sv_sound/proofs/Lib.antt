@@ -1,5 +1,5 @@
 pub mod Edges
-pub mod Static
+pub mod Waits
 pub mod Weights
 pub mod Plain
 pub mod States

@@ -52,10 +52,10 @@ use Rattle.sv_flat.specs.Statements.Delays.{ticks_of, at_moment, delayed}
 use Rattle.sv_flat.specs.Statements.Events.{frozen}
 use Rattle.sv_flat.specs.Statements.Matching.{chosen_item}
 use Rattle.sv_flat.specs.Micro.{Looks, micro, run_first, statement_run, element_on, site, first_site}
-use Rattle.sv_built.specs.Built.{IsBuiltType, IsStaticExpr, IsBuiltWatch, IsBuiltVariable, IsBuiltTarget, IsBuiltBase, IsBuilt, IsBuiltOutput, IsBuiltArgument, IsBuiltCallForm, IsBuiltCall, IsBuiltForm, IsBuiltSubroutine, IsBuiltStmt}
+use Rattle.sv_built.specs.Built.{IsBuiltType, IsBuiltExpr, IsBuiltWatch, IsBuiltVariable, IsBuiltTarget, IsBuiltBase, IsBuilt, IsBuiltOutput, IsBuiltArgument, IsBuiltCallForm, IsBuiltCall, IsBuiltForm, IsBuiltSubroutine, IsBuiltStmt}
 use Rattle.sv_sound.specs.Sound.{IsPlainOutput, IsPlainTodo, IsPlainSpot, IsPlainEffect}
 use Rattle.sv_sound.proofs.Weights.{all_append, all_at}
-use Rattle.sv_sound.proofs.Static.{frozen_static, all_frozen_built}
+use Rattle.sv_sound.proofs.Waits.{frozen_built, all_frozen_built}
 use Rattle.sv_sound.proofs.Plain.{body_plain, optional_body_plain, routine_built}
 
 -- all of these are plain
@@ -384,9 +384,9 @@ module _ (d : Parts) (b : IsBuilt d) where
     tested true body step = goes_plain _ (turned_plain s built body step outer rest k) [] tt
     tested false body step = goes_plain rest k [] tt
 
-    waited : (y : Bool) (e : Expr) → IsStaticExpr e → ArePlainEffects (cond y (goes_on rest []) (waits (Do s [] outer None ∷ rest) (Suspend (Watches (On (frozen e here.view) edge.Change None ∷ []) scope) ∷ [])))
+    waited : (y : Bool) (e : Expr) → IsBuiltExpr e → ArePlainEffects (cond y (goes_on rest []) (waits (Do s [] outer None ∷ rest) (Suspend (Watches (On (frozen e here.view) edge.Change None ∷ []) scope) ∷ [])))
     waited true e h = goes_plain rest k [] tt
-    waited false e h = (((built, tt), k), (((tt, subst IsStaticExpr (sym (frozen_static e h here.view)) h, tt), tt), tt))
+    waited false e h = (((built, tt), k), (((tt, subst IsBuiltExpr (sym (frozen_built e h here.view)) h, tt), tt), tt))
 
     returns : (ts : List Lvalue) → AllByRecursion IsBuiltTarget ts → (e : Option Expr) → ArePlainEffects (returned here ts e)
     returns ts h None = goes_plain (after_return rest) (return_plain rest k) [] tt

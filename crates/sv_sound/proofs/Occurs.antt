@@ -31,6 +31,7 @@ use Rattle.sv_flat.specs.Eval.{with_result}
 use Rattle.sv_flat.specs.Process
 use Rattle.sv_flat.specs.Process.{ProcessState, Status, Waiting, Moment, Turn_in_slot, Watches, Todo, Effect, Spot, Cell, Variable_of, Remain, Enter, Write, Suspend, Resume_at, Update_at, Spawn, Await_children, End_descendants, Print_text, Keep_print, Finish_run, End, Fail, body_in}
 use Rattle.sv_flat.specs.Config.{Config, process_at, set_at, with_process, first_process, numbers_of, side_in, side_of, all_made_ready, met_fault}
+use Rattle.sv_flat.specs.Woken.{Changed, woken}
 use Rattle.sv_flat.specs.Effects.{is_in, woken_by, all_occurred, occurred, applied, after_change, clocks_from, occurrence, event_waiters, woken_by_effect, world_after, scheduled_after, with_world, made_by, may_go_on}
 use Rattle.sv_flat.specs.Effects.Creation.{entered, fresh_value, fresh_values}
 use Rattle.sv_flat.specs.Effects.Ends.{is_running, ended, all_ended, at_end, joined, descendants, living_children, program_checked}
@@ -38,8 +39,8 @@ use Rattle.sv_flat.specs.Effects.Scheduling.{scheduled, suspended, update_schedu
 use Rattle.sv_flat.specs.Effects.Writes.{variable_over}
 use Rattle.sv_built.specs.Built.{IsBuiltType}
 use Rattle.sv_sound.specs.Sound.{IsCell}
-use Rattle.sv_sound.specs.After.{with_state, remaining, waiting_until, turned, watching, with_store, changed_to, store_after, with_activations, entered_by, entering, recorded, strobe_kept}
-use Rattle.sv_sound.proofs.Wakes.{AwaitBuilt, woken_within, none_woken, change_is, slice_get-set_same, slice_set-set}
+use Rattle.sv_sound.specs.After.{with_state, remaining, waiting_until, turned, watching, with_values, changed_in, changed_to, varied_to, store_after, entered_by, entering, recorded, strobe_kept}
+use Rattle.sv_sound.proofs.Wakes.{woken_within, change_is, slice_get-set_same, slice_set-set}
 
 -- the first values of variables of built types make nothing on the heap
 fresh_first : (t : DataType) → IsBuiltType t → (h : Heap) → fresh_value t h ≡ Ok (first_value t, h)
@@ -99,22 +100,20 @@ module _ (d : Parts) (none : d.clockings ≡ []) (at : Place) (p : ProcessId) (c
 
   -- ---- a write
 
+  -- other values, with those whom the change wakes
+  wakes_those : (w : World)
+      → after_change d (filter (λ q. is_in q (woken d Changed c (with_values w c))) (numbers_of c)) c (with_values w c) ≡ changed_in d w c
+  wakes_those w = ap (λ ps. after_change d ps c (with_values w c)) (woken_within d c (with_values w c)) ∙ change_is d none c w
+
   pub effect_write_is : (s : Spot) → IsCell s → (x : Val) → occurred d at p (Write s x) c ≡ changed_to d (store_after s x c.store) c
-  effect_write_is (Cell o i r) h x =
-      let new = with_store (store_after (Cell o i r) x c.store) c in
-      ap (λ ps. after_change d ps c new) (woken_within d c new) ∙ change_is d none c (store_after (Cell o i r) x c.store)
-  effect_write_is Process.Nowhere h x =
-      let new = with_store c.store c in
-      ap (λ ps. after_change d ps c new) (woken_within d c new) ∙ change_is d none c c.store
+  effect_write_is (Cell o i r) h x = wakes_those (record c.world { store = store_after (Cell o i r) x c.store })
+  effect_write_is Process.Nowhere h x = wakes_those c.world
   effect_write_is s h x = absurd h
 
-  -- a variable of an activation wakes nobody
-  pub variable_write_is : AwaitBuilt c → (n : Name) (i : ℕ) (r : Option Range) (x : Val)
-      → occurred d at p (Write (Variable_of n i r) x) c ≡ with_activations (variable_over n i r x c.activations) c
-  variable_write_is h n i r x =
-      let new = with_activations (variable_over n i r x c.activations) c in
-      ap (λ ps. after_change d ps c new) (woken_within d c new ∙ none_woken d c new refl refl h)
-      ∙ ap (λ (ks : List Clocking). record new { regions = clocks_from 0 ks c new c.regions }) none
+  -- of a variable of an activation
+  pub variable_write_is : (n : Name) (i : ℕ) (r : Option Range) (x : Val)
+      → occurred d at p (Write (Variable_of n i r) x) c ≡ varied_to d (variable_over n i r x c.activations) c
+  variable_write_is n i r x = wakes_those (record c.world { activations = variable_over n i r x c.activations })
 
   -- ---- effects on the process itself
 

@@ -36,7 +36,7 @@ use Rattle.sv_sound.proofs.Plain.{plain_of, plain_with, same_jobs, plain_due, pl
 use Rattle.sv_sound.proofs.States.{state_found, set_free, weaker, pending_same, pending_taken, pending_none, pending_counted, not_parked}
 use Rattle.sv_sound.proofs.Related.{made_set}
 use Rattle.sv_sound.proofs.Wakes.{write_is, other_process}
-use Rattle.sv_sound.proofs.Changes.{known, plain_at, related_with, ready_sound, change_sound}
+use Rattle.sv_sound.proofs.Changes.{known, plain_at, related_with, ready_sound, store_sound, change_sound}
 use Rattle.sv_sound.proofs.Running.{running_known, runs_calm, state_sound}
 use Rattle.sv_sound.proofs.EffectSound.{all_sound}
 use Rattle.sv_sound.proofs.MicroPlain.{micro_plain}
@@ -49,7 +49,7 @@ module _ (d : Parts) (b : IsBuilt d) where
   updates_sound [] c k = k
   updates_sound (u ∷ us) c k =
       updates_sound us (write_occurred d no_place (Cell u.target.object u.target.element u.target.part) u.value c)
-      (subst (IsSound d) (sym (write_is d b.no_clockings no_place (Cell u.target.object u.target.element u.target.part) tt u.value c)) (change_sound d _ c k))
+      (subst (IsSound d) (sym (write_is d b.no_clockings no_place (Cell u.target.object u.target.element u.target.part) tt u.value c)) (change_sound d _ c k (store_sound d c k _)))
 
   done_sound : (j : Job) → IsPlainJob j → (c : Config) → IsSound d c → IsSound d (job_done d j c)
   done_sound (Update us) h c k = updates_sound us c k

@@ -10,16 +10,16 @@ use Rattle.sv_value.specs.declared.val.Val.{Val}
 use Rattle.sv_value.specs.Regions.{Regions, ready_in, front_of}
 use Rattle.sv_flat.specs.declared.clocking.Clocking.{Clocking}
 use Rattle.sv_flat.specs.declared.design.Parts.{Parts}
-use Rattle.sv_flat.specs.State.{Store, World, value_at}
+use Rattle.sv_flat.specs.State.{World, view_of}
 use Rattle.sv_flat.specs.Process
 use Rattle.sv_flat.specs.Process.{ProcessState, Status, Ready, Running, Waiting, Moment, Turn_in_slot, Watches, Children, Queue, Start, Spot, Cell}
-use Rattle.sv_flat.specs.Config.{Config, seen, process_at, set_at, numbered_from, numbers_of, state_test, made_ready, all_made_ready, side_in}
-use Rattle.sv_flat.specs.Woken.{Occurrence, Changed, wakes, is_woken, woken}
+use Rattle.sv_flat.specs.Config.{Config, seen, unit_ticks, process_at, set_at, numbered_from, numbers_of, state_test, made_ready, all_made_ready, side_in}
+use Rattle.sv_flat.specs.Woken.{Occurrence, Changed, some_fires, wakes, is_woken, woken}
 use Rattle.sv_flat.specs.Effects.{write_occurred, after_write, after_change, clocks_from, is_in}
 use Rattle.sv_flat.specs.Effects.Writes.{wrote}
 use Rattle.sv_sound.specs.Sound.{is_parked, IsCell, AreAwaited}
-use Rattle.sv_sound.specs.After.{with_store, changed_to, store_after}
-use Rattle.sv_sound.proofs.Static.{none_fire}
+use Rattle.sv_sound.specs.After.{with_values, changed_in, changed_to, store_after}
+use Rattle.sv_sound.proofs.Waits.{quiet}
 
 -- ---- those that an effect wakes
 
@@ -118,22 +118,22 @@ not_wakes d o old new (Waiting (Children all ps)) h = refl
 not_wakes d o old new (Waiting Queue) h = refl
 not_wakes d o old new (Waiting Start) h = refl
 
--- ---- a change of no object wakes nobody
+-- ---- where nothing changed nobody is woken
 
 -- whoever waits for event expressions waits for built ones
 pub record AwaitBuilt (c : Config) : Type 0 where
   pub at : (p : ProcessId) (q : ProcessState) → process_at c p ≡ Some q → AreAwaited q.latest
 
-none_wakes : (d : Parts) (old new : Config) → new.store ≡ old.store → new.time ≡ old.time → (s : Status) → AreAwaited s → wakes d Changed old new s ≡ false
+none_wakes : (d : Parts) (old new : Config) → new.world ≡ old.world → new.time ≡ old.time → (s : Status) → AreAwaited s → wakes d Changed old new s ≡ false
 none_wakes d old new e t (Waiting (Watches ws scope)) h =
-    none_fire ws h (seen d old scope) (seen d new scope) (record { object = ap value_at (sym e); now = sym t; unit = refl })
+    (λ i. some_fires ws Changed (seen d old scope) (view_of (e i) (t i) (unit_ticks d.scale) scope)) ∙ quiet ws h (seen d old scope)
 none_wakes d old new e t s h = refl
 
 none_kept : (f : ProcessId → Bool) (ps : List ProcessId) → ((p : ProcessId) → f p ≡ false) → filter f ps ≡ []
 none_kept f [] h = refl
 none_kept f (p ∷ ps) h = ap (λ b. cond b (p ∷ filter f ps) (filter f ps)) (h p) ∙ none_kept f ps h
 
-pub none_woken : (d : Parts) (old new : Config) → new.store ≡ old.store → new.time ≡ old.time → AwaitBuilt old → woken d Changed old new ≡ []
+pub none_woken : (d : Parts) (old new : Config) → new.world ≡ old.world → new.time ≡ old.time → AwaitBuilt old → woken d Changed old new ≡ []
 none_woken d old new e t h = none_kept _ (numbers_of old) (λ p. by_state p (process_at old p) refl)
   where
     by_state : (p : ProcessId) (o : Option ProcessState) → process_at old p ≡ o → state_test (is_woken d Changed old new) o ≡ false
@@ -147,25 +147,25 @@ wrote_is (Cell o i r) h x w = refl
 wrote_is Process.Nowhere h x w = refl
 wrote_is s h x w = absurd h
 
-pub change_is : (d : Parts) → d.clockings ≡ [] → (c : Config) (s : Store)
-    → after_change d (woken d Changed c (with_store s c)) c (with_store s c) ≡ changed_to d s c
-change_is d none c s =
-    let new = with_store s c in
+pub change_is : (d : Parts) → d.clockings ≡ [] → (c : Config) (w : World)
+    → after_change d (woken d Changed c (with_values w c)) c (with_values w c) ≡ changed_in d w c
+change_is d none c w =
+    let new = with_values w c in
     ap (λ (ks : List Clocking). all_made_ready (woken d Changed c new) (record new { regions = clocks_from 0 ks c new c.regions })) none
 
 pub write_is : (d : Parts) → d.clockings ≡ [] → (at : Place) (s : Spot) → IsCell s → (x : Val) (c : Config)
     → write_occurred d at s x c ≡ changed_to d (store_after s x c.store) c
-write_is d none at s h x c = ap (after_write d at c) (wrote_is s h x c.world) ∙ change_is d none c (store_after s x c.store)
+write_is d none at s h x c = ap (after_write d at c) (wrote_is s h x c.world) ∙ change_is d none c (record c.world { store = store_after s x c.store })
 
-module _ (d : Parts) (s : Store) (c : Config) where
-  -- but for the store, the processes and the regions all stays
-  pub change_keeps : changed_to d s c ≡ record (with_store s c) { processes = (changed_to d s c).processes; regions = (changed_to d s c).regions }
-  change_keeps = only_wakes (woken d Changed c (with_store s c)) (with_store s c)
+module _ (d : Parts) (w : World) (c : Config) where
+  -- but for the values, the processes and the regions all stays
+  pub change_keeps : changed_in d w c ≡ record (with_values w c) { processes = (changed_in d w c).processes; regions = (changed_in d w c).regions }
+  change_keeps = only_wakes (woken d Changed c (with_values w c)) (with_values w c)
 
   -- a process that is not parked stays as it is
-  pub change_passes : (p : ProcessId) (q : ProcessState) → process_at c p ≡ Some q → is_parked q.latest ≡ false → process_at (changed_to d s c) p ≡ Some q
+  pub change_passes : (p : ProcessId) (q : ProcessState) → process_at c p ≡ Some q → is_parked q.latest ≡ false → process_at (changed_in d w c) p ≡ Some q
   change_passes p q is calm =
-      let new = with_store s c in
+      let new = with_values w c in
       let test : ProcessId → Bool = λ p. state_test (is_woken d Changed c new) (process_at c p) in
       kept_process test 0 c.processes new p (ap (state_test (is_woken d Changed c new)) is ∙ not_wakes d Changed c new q.latest calm) ∙ is
 
@@ -253,16 +253,16 @@ pub readied_are : (f : ProcessId → Bool) (t : ℕ → ProcessState → Bool) (
 readied_are f t c h = woken_from f t c [] c.processes 0 c.regions refl h
 
 -- whether a change to these values wakes a process in a state
-abbrev pub woken_in : Parts → Config → Store → ℕ → ProcessState → Bool
-woken_in d c s n q = is_woken d Changed c (with_store s c) q
+abbrev pub woken_in : Parts → Config → World → ℕ → ProcessState → Bool
+woken_in d c w n q = is_woken d Changed c (with_values w c) q
 
 -- a change, by what it makes of each process
-pub change_states : (d : Parts) (s : Store) (c : Config)
-    → changed_to d s c
-    ≡ record (with_store s c) { processes = states_after (woken_in d c s) 0 c.processes; regions = regions_after (woken_in d c s) 0 c.processes c.regions }
-change_states d s c =
-    let new = with_store s c in
+pub change_states : (d : Parts) (w : World) (c : Config)
+    → changed_in d w c
+    ≡ record (with_values w c) { processes = states_after (woken_in d c w) 0 c.processes; regions = regions_after (woken_in d c w) 0 c.processes c.regions }
+change_states d w c =
+    let new = with_values w c in
     let f : ProcessId → Bool = λ p. state_test (is_woken d Changed c new) (process_at c p) in
-    let h : TestsStates f (woken_in d c s) 0 c.processes =
+    let h : TestsStates f (woken_in d c w) 0 c.processes =
     record { at = λ i q e. (let z : 0 + i ≡ i = omega arith in ap (λ m. f (record { 0 = m })) z ∙ ap (state_test (is_woken d Changed c new)) e) } in
-    woken_from f (woken_in d c s) new [] c.processes 0 c.regions refl h
+    woken_from f (woken_in d c w) new [] c.processes 0 c.regions refl h

@@ -13,7 +13,7 @@ use Rattle.sv_flat.specs.declared.process.ProcessKind.{ProcessKind}
 use Rattle.sv_flat.specs.declared.process.ProcessKind.TheVariants as kind
 use Rattle.sv_flat.specs.declared.process.Watch.{Watch}
 use Rattle.sv_flat.specs.declared.design.Parts.{Parts}
-use Rattle.sv_flat.specs.State.{Store, Name, Activation, first_value}
+use Rattle.sv_flat.specs.State.{Store, World, Name, Activation, first_value}
 use Rattle.sv_flat.specs.Process
 use Rattle.sv_flat.specs.Process.{ProcessState, Running, Waiting, Moment, Turn_in_slot, Watches, Children, Todo, Spot, Cell, body_in}
 use Rattle.sv_flat.specs.Config.{Config, Strobe, with_process, all_made_ready, met_fault}
@@ -77,15 +77,27 @@ at_end_of d f k p q c = watching p (record q { rest = body_in d f.body None }) f
 
 -- ---- a change
 
--- the values are these
+-- all that has a value is this
+abbrev pub with_values : World → Config → Config
+with_values w c = record c { world = w }
+
+-- all that has a value is this, and those whom the change wakes are ready
+abbrev pub changed_in : Parts → World → Config → Config
+changed_in d w c = all_made_ready (woken d Changed c (with_values w c)) (with_values w c)
+
+-- the values of objects are these
 abbrev pub with_store : Store → Config → Config
 with_store s c = record c { world = record c.world { store = s } }
 
--- the values are these, and those whom the change wakes are ready
+-- the values of objects are these, and those whom the change wakes are ready
 abbrev pub changed_to : Parts → Store → Config → Config
-changed_to d s c = all_made_ready (woken d Changed c (with_store s c)) (with_store s c)
+changed_to d s c = changed_in d (record c.world { store = s }) c
 
--- the values after a write
+-- a variable of an activation is this, and those whom the change wakes are ready
+abbrev pub varied_to : Parts → List Activation → Config → Config
+varied_to d as' c = changed_in d (record c.world { activations = as' }) c
+
+-- the values of objects after a write
 abbrev pub store_after : Spot → Val → Store → Store
 store_after (Cell o i r) x s = changed_at s o.0 (stored_over i r x)
 store_after _ x s = s

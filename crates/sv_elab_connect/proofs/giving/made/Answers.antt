@@ -1,4 +1,4 @@
-use Rattle.std.proofs.Common.{◌≡◌, List, ◌++◌, None, map, ap, subst, ◌∙◌}
+use Rattle.std.proofs.Common.{◌≡◌, List, ◌++◌, None, ap, subst, ◌∙◌}
 use Rattle.std.specs.Prelude.{OnOk}
 use Rattle.sv_flat.specs.declared.stmt.Form.{Form}
 use Rattle.sv_names.specs.declared.checked.Checked.{Checked}
@@ -11,7 +11,7 @@ use Rattle.sv_names.specs.Targets.{Spot, type_of_target}
 use Rattle.sv_names.specs.Types.{Path}
 use Rattle.sv_names.specs.Values.{assigned}
 use Rattle.sv_names.specs.Views.{around_in}
-use Rattle.sv_elab_drive.specs.Driven.{driving, nets_of}
+use Rattle.sv_elab_drive.specs.Driven.{nets_of}
 use Rattle.sv_elab_drive.proofs.DrivenLaws.{made_fails}
 use Rattle.sv_elab_connect.proofs.GivingLaws.{put_whole}
 use Rattle.sv_elab_connect.proofs.giving.made.Goals as goal
@@ -20,7 +20,7 @@ pub returns-in-Ok : goal.returns-in-Ok
 returns-in-Ok c =
     let ar = around_in c.args.around.now in
     let form : List Spot → Checked (Hoisted Form) = λ ss. assigned ar (type_of_target ss) c.args.place c.args.value ▷ given_to ar None ss in
-    let driven = c.in_ok-driving.ensures ∙ ap (λ (b : List Path). map (driving b) c.args.spots) c.as_slice-2.ensures in
+    let driven = c.in_ok-driving.ensures in
     let nets = c.in_ok-nets.ensures ∙ ap (λ (ss : List Spot). nets_of ss) c.as_slice.ensures in
     put_whole ar c.args.at c.args.kind c.args.before.now c.args.spots c.put_process.new.before c.args.routines.now c.put_process.new.routines
     c.args.place c.args.value c.in-Ok.form c.put_process.result
@@ -32,7 +32,7 @@ pub returns-in-Err : goal.returns-in-Err
 returns-in-Err c =
     let ar = around_in c.args.around.now in
     let form : List Spot → Checked (Hoisted Form) = λ ss. assigned ar (type_of_target ss) c.args.place c.args.value ▷ given_to ar None ss in
-    let driven = c.in_ok-driving.ensures ∙ ap (λ (b : List Path). map (driving b) c.args.spots) c.as_slice-2.ensures in
+    let driven = c.in_ok-driving.ensures in
     made_fails ar c.args.at c.args.kind c.args.before.now c.args.spots c.args.before.now c.args.routines.now c.args.routines.now
     c.args.place c.args.value c.in-Err.e
     (subst (λ (ss : List Spot). Fails c.in-Err.e (form ss)) driven c.in-Err.ensures)

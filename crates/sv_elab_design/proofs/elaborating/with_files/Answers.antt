@@ -1,5 +1,6 @@
 -- What is walked over the scope of the files.
-use Rattle.std.proofs.Common.{◌≡◌, ◌∙◌, ◌∷◌, [], map, option_map, refl, ap, subst}
+use Rattle.std.proofs.Common.{◌≡◌, ◌∙◌, List, ◌∷◌, [], map, option_map, refl, ap, subst}
+use Rattle.sv_tree.specs.declared.unit.Description.{Description}
 use Rattle.sv_tree.specs.UnitView.{description}
 use Rattle.sv_names.specs.Design.{design_over, no_numbers}
 use Rattle.sv_names.specs.Given.{Gives}
@@ -25,7 +26,9 @@ returns c =
     let nowhere : around_in c.nowhere-outer.result ≡ nowhere_around no_numbers s =
     c.nowhere-outer.ensures refl refl ∙ ap (λ (ns : Numbers). nowhere_around ns s) c.in_ok-numbers.ensures in
     let files : around_in seen ≡ file_around no_numbers s g = files_seen no_numbers s g c.nowhere-outer.result seen nowhere refl scopes classes in
-    let group : g ≡ file_group no_numbers s us = c.in_ok-group.ensures ∙ ap (λ (ar : Around). settled_files ar us) nowhere in
+    let group : g ≡ file_group no_numbers s us = c.in_ok-group.ensures
+    ∙ ap (λ (ds : List Description). settled_files (around_in c.nowhere-outer.result) (map description ds)) c.all.ensures
+    ∙ ap (λ (ar : Around). settled_files ar us) nowhere in
     let walk : map walked_in c.as_slice-3.result.now ≡ walked us (file_around no_numbers s (file_group no_numbers s us)) top =
     ap (map walked_in) c.as_slice-3.ensures ∙ c.in_ok-walked.ensures
     ∙ ap (λ (ar : Around). walked us ar top) (files ∙ ap (file_around no_numbers s) group) in

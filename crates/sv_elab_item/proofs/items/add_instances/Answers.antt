@@ -21,7 +21,7 @@ returns c =
     let i = inst_in c.args.inst.now in
     let x = c.args.so_far.now in
     let of = instances c.args.of.now in
-    let unit = c.definition_named-unit.ensures ∙ ap (λ n. definition_named n us) c.bytes.ensures in
+    let unit = c.named-unit.ensures ∙ ap (λ n. definition_named n us) c.bytes.ensures in
     let stand = instances_stand ar i of (definition_named of.of.text us) in
     let values = connections_stand ar of.params in
     c.guarded_adding.ensures x x (Good nothing where_also stand) values

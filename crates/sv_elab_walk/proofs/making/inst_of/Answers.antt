@@ -1,5 +1,7 @@
 -- The parts of an instance.
-use Rattle.std.proofs.Common.{◌≡◌, ℕ, List, ◌∷◌, subst, ap, ◌∙◌}
+use Rattle.std.proofs.Common.{◌≡◌, ℕ, List, ◌∷◌, map, subst, ap, ◌∙◌}
+use Rattle.sv_tree.specs.declared.unit.Description.{Description}
+use Rattle.sv_tree.specs.UnitView.{description}
 use Rattle.sv_names.specs.Instances.{around_unit}
 use Rattle.sv_names.specs.Named.{Around}
 use Rattle.sv_names.specs.Types.{Path}
@@ -20,8 +22,9 @@ returns c =
     let stands = c.in_ok-body.body.stands in
     let around : around_in c.around_unit-around.result ≡ around_unit us files d c.args.path =
     c.around_unit-around.ensures us ∙ ap (around_unit us files d) c.as_slice.ensures in
-    let here = subst (λ (p : Path). IsBody us (around_in c.around_unit-around.result) p d.element gs g stands) c.as_slice-2.ensures
-    c.in_ok-body.ensures in
+    let own = subst (λ (ds : List Description). IsBody (map description ds) (around_in c.around_unit-around.result)
+    c.as_slice-2.result.now d.element gs g stands) c.all.ensures c.in_ok-body.ensures in
+    let here = subst (λ (p : Path). IsBody us (around_in c.around_unit-around.result) p d.element gs g stands) c.as_slice-2.ensures own in
     let body = subst (λ (ar : Around). IsBody us ar c.args.path d.element gs g stands) around here in
     λ i. record {
       path = c.args.path;

@@ -73,7 +73,7 @@ returns-in-Watch-clause-ok c =
     let m = c.args.machine.now in
     let p = c.args.process in
     subst (λ (e : Own_effect). OnOk c.watch.result (Does d m c.watch.new.machine (occurred d c.args.at p (effect_in d e)) ls ls)) (sym c.in-Watch.is)
-    (ok_given c.watch.result _ _ (λ h. watch_does d c.requires.built c.args.at p m c.watch.new.machine c.requires.running ls c.in-Watch.wait c.in-Watch.scope h) c.watch.ensures.ok)
+    (ok_given c.watch.result _ _ (λ h. watch_does d c.requires.built c.args.at p m c.watch.new.machine c.requires.running ls (record { wait = c.in-Watch.wait; scope = c.in-Watch.scope }) h) c.watch.ensures.ok)
 
 pub returns-in-ResumeAt-clause-ok : goal.returns-in-ResumeAt-clause-ok
 returns-in-ResumeAt-clause-ok c =

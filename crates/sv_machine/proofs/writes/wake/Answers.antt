@@ -1,11 +1,9 @@
-use Rattle.std.proofs.Common.{ℕ, ◌≡◌, ◌∙◌, Bool, List, Option, None, ap, subst, sym, refl, arith, length}
+use Rattle.std.proofs.Common.{◌≡◌, ◌∙◌, Bool, List, Option, ap, subst, sym, refl, arith, length}
 use Rattle.std.specs.Prelude.{sum_by}
 use Rattle.std.specs.List.{AllByRecursion}
 use Rattle.sv_value.specs.declared.number.ProcessId.{ProcessId}
-use Rattle.sv_flat.specs.Config.{unit_ticks}
-use Rattle.sv_built.specs.declared.wait.Wait.{Wait}
-use Rattle.sv_assign.specs.Seen.{view_in, view_before}
-use Rattle.sv_sense.specs.Wakes.{fires_at, woken_from, waits_after}
+use Rattle.sv_sense.specs.declared.waiter.Waiter.{Waiter}
+use Rattle.sv_sense.specs.Wakes.{fires_at, scenes_before, scenes_after, woken_from}
 use Rattle.sv_sense.proofs.SenseLaws.{ok_given}
 use Rattle.sv_machine.specs.Wakes.{IsKnown, all_ready}
 use Rattle.sv_machine.proofs.WriteLaws.{woken_known, woken_weight}
@@ -14,8 +12,7 @@ use Rattle.sv_machine.proofs.writes.wake.Goals as goal
 pub make_ready-done-requires-clause-known : goal.make_ready-done-requires-clause-known
 make_ready-done-requires-clause-known c =
     let d = c.args.design.now in
-    let u = c.unit_ticks-unit.result in
-    let t : Option Wait → Bool = fires_at d (view_before c.args.overwritten.now c.args.store.now c.args.activations.now.activations c.args.time u None) (view_in c.args.store.now c.args.activations.now.activations c.args.time u None) in
+    let t : Option Waiter → Bool = fires_at d (scenes_before c.args.before.now) (scenes_after c.args.before.now) in
     let e : c.deref.result.now ≡ woken_from t 0 c.args.sense.now.waits = c.deref.ensures.value ∙ c.in_ok-fire.ensures.woken in
     let n = c.requires.count in
     subst (λ (ps : List ProcessId). AllByRecursion (IsKnown (length c.args.tree.now)) ps) (sym e) (woken_known t 0 (length c.args.tree.now) c.args.sense.now.waits (omega (arith, n)))
@@ -23,8 +20,7 @@ make_ready-done-requires-clause-known c =
 pub make_ready-done-requires-clause-weights : goal.make_ready-done-requires-clause-weights
 make_ready-done-requires-clause-weights c = λ w.
     let d = c.args.design.now in
-    let u = c.unit_ticks-unit.result in
-    let t : Option Wait → Bool = fires_at d (view_before c.args.overwritten.now c.args.store.now c.args.activations.now.activations c.args.time u None) (view_in c.args.store.now c.args.activations.now.activations c.args.time u None) in
+    let t : Option Waiter → Bool = fires_at d (scenes_before c.args.before.now) (scenes_after c.args.before.now) in
     let e : c.deref.result.now ≡ woken_from t 0 c.args.sense.now.waits = c.deref.ensures.value ∙ c.in_ok-fire.ensures.woken in
     let s = ap (sum_by w) e in
     let k = woken_weight t refl w 0 c.args.sense.now.waits in
@@ -34,12 +30,10 @@ make_ready-done-requires-clause-weights c = λ w.
 pub returns : goal.returns
 returns c =
     let d = c.args.design.now in
-    let v : ℕ → Option Wait → Bool = λ u. fires_at d (view_before c.args.overwritten.now c.args.store.now c.args.activations.now.activations c.args.time u None) (view_in c.args.store.now c.args.activations.now.activations c.args.time u None) in
-    let is = c.unit_ticks-unit.ensures ∙ ap unit_ticks c.scale.ensures in
-    let t = v c.unit_ticks-unit.result in
+    let t : Option Waiter → Bool = fires_at d (scenes_before c.args.before.now) (scenes_after c.args.before.now) in
     let e : c.deref.result.now ≡ woken_from t 0 c.args.sense.now.waits = c.deref.ensures.value ∙ c.in_ok-fire.ensures.woken in
     ok_given c.make_ready-done.result _ _ (λ h. record {
-      waits = c.in_ok-fire.ensures.left ∙ ap (λ u. waits_after (v u) c.args.sense.now.waits) is;
-      regions = h ∙ ap (λ (ps : List ProcessId). all_ready c.args.tree.now ps c.args.regions.now) (e ∙ ap (λ u. woken_from (v u) 0 c.args.sense.now.waits) is);
+      waits = c.in_ok-fire.ensures.left;
+      regions = h ∙ ap (λ (ps : List ProcessId). all_ready c.args.tree.now ps c.args.regions.now) e;
       covers = c.in_ok-fire.ensures.covers;
     }) c.make_ready-done.ensures

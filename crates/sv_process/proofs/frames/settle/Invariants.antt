@@ -1,9 +1,9 @@
-use Rattle.std.proofs.Common.{◌≡◌, vec_len, reverse}
+use Rattle.std.proofs.Common.{◌≡◌, length}
 use Rattle.sv_process.specs.Frames.{todos_of}
 use Rattle.sv_process.proofs.frames.settle.Given as goal
 
 abbrev pub invariant-loop-top : goal.invariant-loop-top
-invariant-loop-top l = todos_of l.design (reverse l.stack.items) ≡ todos_of l.design (reverse l.initial.stack.items)
+invariant-loop-top l = todos_of l.design l.frames ≡ todos_of l.design l.initial.frames
 
 abbrev pub decreases-loop-top : goal.decreases-loop-top
-decreases-loop-top l = vec_len l.stack
+decreases-loop-top l = length l.frames

@@ -1,6 +1,0 @@
-use Rattle.std.proofs.Common.{◌≡◌, drop}
-use Rattle.sv_names.specs.Marks.{with_path}
-use Rattle.sv_elab_writers.proofs.marks.mark_of.Given as goal
-
-abbrev pub invariant-loop-name : goal.invariant-loop-name
-invariant-loop-name l = with_path l.mark (drop l.name-index l.path) ≡ with_path 0 l.path
