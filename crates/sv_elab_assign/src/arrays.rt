@@ -16,7 +16,7 @@ ghost use Rattle.sv_elab_assign.specs.Wholes as wholes;
 use crate::amount::Amount;
 use crate::written::no_object;
 use std::alloc::Global;
-use sv_elab_select::{Spot, container_of, read_of, type_of_target};
+use sv_elab_call::sv_elab_select::{Spot, container_of, read_of, type_of_target};
 use sv_elab_value::{call_stands, code_of, exactly, paired, pure};
 use sv_flat::{Container, Expr, Form};
 use sv_names::{Around, Checked, Hoisted, Refusal, Ty, Typed, both, selectable, where_also};

@@ -7,7 +7,7 @@ ghost use Rattle.sv_elab_assign.specs.Amounts.{amount_if};
 ghost use Rattle.sv_elab_assign.specs.Wholes as wholes;
 
 use crate::amount::Amount;
-use sv_elab_select::Spot;
+use sv_elab_call::sv_elab_select::Spot;
 use sv_flat::Form;
 use sv_names::{Checked, Fault, Hoisted, Refusal, earlier_in};
 use sv_value::Seq;

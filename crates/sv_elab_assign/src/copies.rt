@@ -13,7 +13,7 @@ use crate::amount::Amount;
 use crate::written::{assign_parts, no_object};
 use std::alloc::Global;
 use sv_elab_call::as_value;
-use sv_elab_select::{Spot, type_of_target};
+use sv_elab_call::sv_elab_select::{Spot, type_of_target};
 use sv_elab_value::{call_stands, code_of};
 use sv_flat::{CallForm, Expr, Form};
 use sv_names::{Around, Called, Hoisted, Refusal, Ty, Typed, can_be_derived, where_also};

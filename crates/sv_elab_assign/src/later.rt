@@ -18,7 +18,7 @@ use crate::amount::Amount;
 use crate::beside::both_parts;
 use crate::written::no_whole_container;
 use std::alloc::Global;
-use sv_elab_select::{Spot, lvalues, type_of_target};
+use sv_elab_call::sv_elab_select::{Spot, lvalues, type_of_target};
 use sv_elab_value::{assigned, exactly, paired};
 use sv_flat::{Expr, Form, Lvalue};
 use sv_names::{Around, Begin, Checked, Hoisted, Refusal, Ty, Typed, answer, both, where_also};

@@ -32,6 +32,7 @@ pub use openings::{
     value_at_opening,
 };
 pub use standing::{behind_target, later_around, operand_around, source_around, value_around};
+pub use sv_elab_call;
 pub use updates::{step, update};
 pub use wholes::{assign, assign_array, assign_copy, assign_new};
 pub use written::value_given;

@@ -16,7 +16,7 @@ ghost use Rattle.sv_elab_assign.specs.Making as making;
 use crate::copies::made_by;
 use crate::written::no_object;
 use std::alloc::Global;
-use sv_elab_select::Spot;
+use sv_elab_call::sv_elab_select::Spot;
 use sv_elab_value::{exactly, expr_of, pure, values_stand};
 use sv_flat::{CallForm, Expr, ExprForm};
 use sv_names::{Arg, Around, Hoisted, Refusal, Ty, int_type, where_also};

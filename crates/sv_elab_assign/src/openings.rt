@@ -24,7 +24,7 @@ use crate::arrays::{Source, array_given};
 use crate::making::bound_given;
 use crate::wholes::copy_in;
 use std::alloc::Global;
-use sv_elab_select::{Spot, container_of};
+use sv_elab_call::sv_elab_select::{Spot, container_of};
 use sv_elab_value::{assigned, expr_of, pure, value_typed};
 use sv_flat::{Expr, ExprForm, Initial};
 use sv_names::{Arg, Around, Checked, Hoisted, Refusal, Ty, Typed, answer, first};

@@ -10,7 +10,7 @@ ghost use Rattle.sv_elab_assign.specs.Amounts.{amount_if};
 ghost use Rattle.sv_elab_assign.specs.Places as places;
 
 use crate::amount::Amount;
-use sv_elab_select::{Spot, hidden_of_spots};
+use sv_elab_call::sv_elab_select::{Spot, hidden_of_spots};
 use sv_names::{Around, Checked, Typed};
 use sv_value::Seq;
 

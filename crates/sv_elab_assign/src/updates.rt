@@ -14,8 +14,8 @@ ghost use Rattle.sv_elab_assign.specs.Places as places;
 
 use crate::beside::{also_broken, only};
 use std::alloc::Global;
+use sv_elab_call::sv_elab_select::{Spot, read_lvalues, read_of, type_of_target};
 use sv_elab_operator::{binary, number};
-use sv_elab_select::{Spot, read_lvalues, read_of, type_of_target};
 use sv_elab_value::assigned;
 use sv_flat::{Expr, Form, Lvalue};
 use sv_names::{Around, Checked, Hoisted, Refusal, Ty, Typed, answer, judged};

@@ -22,7 +22,7 @@ use crate::copies::copy_given;
 use crate::standing::behind_parts;
 use crate::written::{assign_parts, not_late, value_given};
 use std::alloc::Global;
-use sv_elab_select::Spot;
+use sv_elab_call::sv_elab_select::Spot;
 use sv_elab_value::call_stands;
 use sv_flat::{Expr, Form};
 use sv_names::{Around, Checked, Hoisted, Refusal, Typed, earlier_in, where_also};

@@ -14,7 +14,7 @@ ghost use Rattle.sv_elab_assign.specs.Forms as forms;
 
 use crate::amount::Amount;
 use std::alloc::Global;
-use sv_elab_select::{Spot, container_of, lvalues, read_of, type_of_target};
+use sv_elab_call::sv_elab_select::{Spot, container_of, lvalues, read_of, type_of_target};
 use sv_elab_value::{assigned, code_of, paired, rule};
 use sv_flat::{Expr, Form, Lvalue};
 use sv_names::{Around, Fault, Hoisted, Refusal, Typed};

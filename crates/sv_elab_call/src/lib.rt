@@ -18,3 +18,4 @@ pub use casts::cast_called;
 pub use given::as_value;
 pub use passing::arguments;
 pub use rows::in_row;
+pub use sv_elab_select;

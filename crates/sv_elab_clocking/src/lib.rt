@@ -14,3 +14,4 @@ mod signals;
 mod skews;
 
 pub use blocks::clocking_of;
+pub use sv_elab_expr;

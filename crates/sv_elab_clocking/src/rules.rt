@@ -8,8 +8,8 @@ ghost use Rattle.sv_elab_unit.specs.Definitions.{names_in};
 ghost use Rattle.sv_elab_clocking.specs.Names.{items_names};
 
 use std::alloc::Global;
+use sv_elab_expr::sv_elab_value::rule;
 use sv_elab_unit::{is_among, put_first};
-use sv_elab_value::rule;
 use sv_names::{Refusal, same_bytes, where_also};
 use sv_tree::{ClockingItem, Name};
 use sv_value::NoMemory;

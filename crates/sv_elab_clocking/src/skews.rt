@@ -12,10 +12,10 @@ ghost use Rattle.sv_elab_clocking.specs.Skews as words;
 ghost use Rattle.sv_elab_clocking.specs.Skews.{skews_in};
 
 use std::alloc::Global;
+use sv_elab_expr::sv_elab_operator::ticks_in;
+use sv_elab_expr::sv_elab_value::constant_number;
 use sv_elab_expr::{expr, place_of};
-use sv_elab_operator::ticks_in;
 use sv_elab_signal::is_input_side;
-use sv_elab_value::constant_number;
 use sv_flat::Scale;
 use sv_names::{Around, Refusal, first};
 use sv_tree::{ClockingItem, Expr, Sided, Skew};

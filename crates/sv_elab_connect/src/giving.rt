@@ -21,7 +21,7 @@ use sv_elab_assign::value_given;
 use sv_elab_drive::{all_driving, assigning, nets_of};
 use sv_elab_drives::Drives;
 use sv_elab_expr::place_of;
-use sv_elab_select::Spot;
+use sv_elab_expr::sv_elab_select::Spot;
 use sv_flat::{Form, Process, ProcessKind, Routine};
 use sv_names::{Around, Hoisted, Path, Refusal, Typed, both};
 use sv_tree::Expr;

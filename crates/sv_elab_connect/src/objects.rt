@@ -15,8 +15,8 @@ ghost use Rattle.sv_names.specs.Views.{around_in, meaning_in};
 ghost use Rattle.sv_elab_unit.specs.Ports.{port_in};
 
 use std::alloc::Global;
-use sv_elab_name::object_typed;
-use sv_elab_select::Spot;
+use sv_elab_expr::sv_elab_name::object_typed;
+use sv_elab_expr::sv_elab_select::Spot;
 use sv_elab_unit::PortInfo;
 use sv_names::{
     Around, Begin, Checked, Fault, Meaning, Named, Refusal, Scope, Ty, Typed, copy_path,

@@ -8,9 +8,9 @@ ghost use Rattle.sv_names.specs.Views.{around_in};
 
 use crate::labels::all_labels;
 use std::alloc::Global;
+use sv_elab_expr::sv_elab_step::behind_value;
 use sv_elab_expr::{expr, place_of};
 use sv_elab_flow::{Heads, heads_of, needs_activation, raised, subject_in, subject_type};
-use sv_elab_step::behind_value;
 use sv_names::{Around, Checked, Hoisted, Refusal, Typed, answer, both, judged};
 use sv_tree::{CaseItem, Expr};
 

@@ -9,9 +9,9 @@ ghost use Rattle.sv_names.specs.Views.{around_in};
 ghost use Rattle.sv_elab_flow.specs.Labels as labels;
 
 use std::alloc::Global;
+use sv_elab_expr::sv_elab_step::behind_value;
 use sv_elab_expr::{expr, place_of};
 use sv_elab_flow::{Labels, Placed, behind_item, label_in, some_labels};
-use sv_elab_step::behind_value;
 use sv_names::{Around, Checked, Refusal, Ty, and_next, judged};
 use sv_tree::{CaseItem, Expr};
 use sv_value::Seq;

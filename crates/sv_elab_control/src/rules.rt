@@ -5,7 +5,7 @@ ghost use Rattle.sv_names.specs.Statements as statements;
 ghost use Rattle.sv_names.specs.Views.{around_in};
 
 use sv_elab_assign::timing_stands;
-use sv_elab_value::rule;
+use sv_elab_expr::sv_elab_value::rule;
 use sv_names::{Around, Refusal, where_also};
 use sv_value::Place;
 

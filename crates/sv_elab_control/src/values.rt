@@ -8,9 +8,9 @@ ghost use Rattle.sv_names.specs.Values as values;
 ghost use Rattle.sv_names.specs.Views.{around_in};
 
 use std::alloc::Global;
+use sv_elab_expr::sv_elab_value::operand;
 use sv_elab_expr::{expr, place_of};
 use sv_elab_flow::{alone_given, needs_activation, raised};
-use sv_elab_value::operand;
 use sv_flat::Expr as FlatExpr;
 use sv_names::{Around, Hoisted, Refusal};
 use sv_tree::Expr;

@@ -9,9 +9,9 @@ ghost use Rattle.sv_names.specs.Views.{around_in};
 ghost use Rattle.sv_elab_event.specs.Occasions as occasions;
 
 use std::alloc::Global;
+use sv_elab_expr::sv_elab_value::operand;
 use sv_elab_expr::{expr, place_of};
 use sv_elab_flow::alone_given;
-use sv_elab_value::operand;
 use sv_flat::Expr as FlatExpr;
 use sv_names::{Around, Hoisted, Refusal};
 use sv_tree::Expr;

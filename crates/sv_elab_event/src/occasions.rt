@@ -11,9 +11,9 @@ ghost use Rattle.sv_elab_event.specs.Occasions as occasions;
 ghost use Rattle.sv_elab_event.specs.Occasions.{occasion_in, is_block, is_name};
 
 use std::alloc::Global;
+use sv_elab_expr::sv_elab_thing::value_step;
 use sv_elab_expr::{behind_root, expr, place_of_root};
 use sv_elab_name::{Thing, judged_thing, root_thing};
-use sv_elab_thing::value_step;
 use sv_names::{Around, Checked, Refusal, Typed};
 use sv_tree::{Expr, Root, Suffix};
 use sv_value::Place;

@@ -8,7 +8,7 @@ ghost use Rattle.sv_names.specs.Views.{around_in};
 ghost use Rattle.sv_elab_event.specs.Occasions as occasions;
 
 use std::alloc::Global;
-use sv_elab_value::{alone, code_of, one_item, paired, pure};
+use sv_elab_expr::sv_elab_value::{alone, code_of, one_item, paired, pure};
 use sv_flat::{Edge, Expr, Watch};
 use sv_names::{Around, Hoisted, Refusal, Typed};
 use sv_tree::EdgeWord;

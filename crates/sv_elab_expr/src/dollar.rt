@@ -3,7 +3,7 @@ ghost use Rattle.sv_names.specs.Expressions as expressions;
 ghost use Rattle.sv_names.specs.Given.{Gives};
 
 use std::alloc::Global;
-use sv_elab_value::{pure, value_typed};
+use sv_elab_name::sv_elab_value::{pure, value_typed};
 use sv_names::{Dollar, Refusal, Typed, copy_expr, int_type};
 use sv_value::Place;
 

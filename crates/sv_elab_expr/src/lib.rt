@@ -14,4 +14,10 @@ mod places;
 mod table;
 
 pub use places::{place_of, place_of_root};
+pub use sv_elab_name;
+pub use sv_elab_name::sv_elab_value;
+pub use sv_elab_step;
+pub use sv_elab_step::sv_elab_print;
+pub use sv_elab_thing;
+pub use sv_elab_thing::{sv_elab_call, sv_elab_operator, sv_elab_select};
 pub use table::{args, behind_root, expr, named, target_in, target_of_name};

@@ -16,16 +16,18 @@ use crate::dollar::last_index;
 use crate::operands::{right_of, without_calls};
 use crate::places::{place_of, place_of_cast, place_of_root};
 use std::alloc::Global;
+use sv_elab_name::sv_elab_value::counted;
 use sv_elab_name::{Thing, judged_thing, outputs_behind, root_thing};
-use sv_elab_operator::{binary, choose, join, null, number, parts, repeat, string, time, unary};
-use sv_elab_select::Spot;
 use sv_elab_step::{
     after, as_concatenation, behind_arg, behind_object, behind_spots, fault_of, first_output,
     first_type, in_index, kept, literal_text, more_outputs, no_constructor, outputs_of_system,
     part_step, select_step, system_of, system_value, target_step,
 };
+use sv_elab_thing::sv_elab_operator::{
+    binary, choose, join, null, number, parts, repeat, string, time, unary,
+};
+use sv_elab_thing::sv_elab_select::Spot;
 use sv_elab_thing::{call_step, cast, dollar_behind, member_step, value_step};
-use sv_elab_value::counted;
 use sv_names::{Arg, Around, Checked, How, Refusal, Taken, Typed, answer, judged};
 use sv_tree::{Actuals, Expr, Name, Root, Suffix};
 use sv_value::{Place, Seq};

@@ -48,5 +48,6 @@ pub use rows::in_row;
 pub use rules::guarded_code;
 pub use scopes::{after, after_item};
 pub use sequence::{and_routine, in_sequence, no_routine, nothing, then};
+pub use sv_elab_select;
 pub use values::{alone_given, needs_activation};
 pub use waits::{trigger_form, wait_form};

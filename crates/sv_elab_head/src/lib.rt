@@ -21,3 +21,4 @@ pub use callees::{Heading, callee_within};
 pub use meaning::{InUnit, settled_unit, value_of_any};
 pub use scopes::{pure_scope, routine_scope};
 pub use stands::callee_stands;
+pub use sv_elab_type::sv_elab_expr;

@@ -8,8 +8,8 @@ ghost use Rattle.sv_elab_item.specs.Parts as parts;
 
 use std::alloc::Global;
 use sv_elab_member::class_made;
+use sv_elab_member::sv_elab_routine::routine_made;
 use sv_elab_parts::SoFar;
-use sv_elab_routine::routine_made;
 use sv_elab_signal::within;
 use sv_names::{Around, Refusal, class_in};
 use sv_tree::{Class, Item, Qualifiers, Routine};

@@ -15,9 +15,9 @@ ghost use Rattle.sv_elab_item.specs.Adding.{AddsObjects};
 ghost use Rattle.sv_elab_item.specs.Parts as parts;
 
 use std::alloc::Global;
+use sv_elab_member::sv_elab_variable::{initial_broken, initial_of};
 use sv_elab_object::{Flags, object_at};
 use sv_elab_unit::PortInfo;
-use sv_elab_variable::{initial_broken, initial_of};
 use sv_flat::{Initial, Object, ObjectKind};
 use sv_names::{Around, Checked, Fault, Meaning, Named, Refusal, Scope, Ty, declared_in, first};
 use sv_tree::{Declarator, Name, NetItem};

@@ -11,8 +11,8 @@ ghost use Rattle.sv_elab_item.specs.Parts as parts;
 
 use std::alloc::Global;
 use sv_elab_flow::guarded_code;
+use sv_elab_member::sv_elab_stmt::{at_event, stmt};
 use sv_elab_parts::SoFar;
-use sv_elab_stmt::{at_event, stmt};
 use sv_flat::{Object, Process, ProcessKind, Routine, Stmt as FlatStmt};
 use sv_names::{Around, Refusal, copy_path};
 use sv_tree::{Body, Procedure, ProcedureWord, Stmt};

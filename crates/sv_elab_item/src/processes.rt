@@ -18,11 +18,11 @@ ghost use Rattle.sv_elab_item.specs.Adding.{AddsProcesses};
 ghost use Rattle.sv_elab_item.specs.Parts as parts;
 
 use std::alloc::Global;
+use sv_elab_clocking::sv_elab_expr::expr;
 use sv_elab_connect::{continuous, net_made, port_link};
 use sv_elab_drives::Drives;
-use sv_elab_expr::expr;
+use sv_elab_member::sv_elab_write::{place_of_target, target_of};
 use sv_elab_unit::PortInfo;
-use sv_elab_write::{place_of_target, target_of};
 use sv_flat::{Process, ProcessKind, Routine};
 use sv_names::{Around, How, Refusal, Scope, answer, first};
 use sv_tree::{AssignItem, Connection, NetItem};

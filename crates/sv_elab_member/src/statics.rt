@@ -12,7 +12,7 @@ ghost use Rattle.sv_elab_member.specs.Statics as words;
 
 use std::alloc::Global;
 use sv_elab_object::{Flags, object_at};
-use sv_elab_variable::{initial_broken, initial_of};
+use sv_elab_routine::sv_elab_variable::{initial_broken, initial_of};
 use sv_flat::{Object, ObjectKind};
 use sv_names::{Around, Checked, ClassInfo, Named, Refusal, Ty, declared_in, first};
 use sv_tree::{ClassItem, Declarator, Init};

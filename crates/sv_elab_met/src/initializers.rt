@@ -8,8 +8,8 @@ ghost use Rattle.sv_elab_met.specs.Behind.{Listed};
 ghost use Rattle.sv_elab_met.specs.Met as words;
 
 use std::alloc::Global;
-use sv_elab_expr::place_of;
 use sv_elab_signal::within;
+use sv_elab_touch::sv_elab_expr::place_of;
 use sv_elab_writers::Initialized;
 use sv_tree::{Declarator, Init, Item};
 use sv_value::{NoMemory, Place, Seq, Text};

@@ -11,7 +11,7 @@ ghost use Rattle.sv_elab_writers.specs.Views.{touch_in, process_in};
 ghost use Rattle.sv_elab_met.specs.Met as words;
 
 use std::alloc::Global;
-use sv_elab_expr::place_of_root;
+use sv_elab_touch::sv_elab_expr::place_of_root;
 use sv_elab_touch::{add_lval, add_selects, add_target};
 use sv_elab_writers::{Process, Touch, Writer};
 use sv_names::{Around, How};

@@ -32,6 +32,7 @@ pub use protection::{is_within, may_be_named};
 pub use roots::root_thing;
 pub use steps::{hidden_behind, judged_thing, outputs_behind, outputs_of};
 pub use suffixes::{signal_named, value_member};
+pub use sv_elab_value;
 pub use thing::Thing;
 pub use value::{signal_read, signal_target};
 pub use variables::{field_typed, lasts, local_typed, object_typed};

@@ -13,3 +13,4 @@ mod objects;
 pub use known::{known_stand, name_stands};
 pub use locals::locals_of;
 pub use objects::{Flags, home_of, object_at};
+pub use sv_elab_value;

@@ -20,4 +20,5 @@ pub use literals::{null, number};
 pub use operators::{binary, binary_typed, comparison, context_of, kind_of, numbers, power, unary};
 pub use placed::parts;
 pub use strings::{string, text_of};
+pub use sv_elab_value;
 pub use times::{ticks_in, time};

@@ -16,9 +16,9 @@ use std::alloc::Global;
 use sv_elab_assign::{
     Amount, Source, assign, assign_array, assign_copy, assign_new, source_around, value_around,
 };
-use sv_elab_expr::{expr, place_of};
-use sv_elab_select::{Spot, type_of_target};
-use sv_elab_value::values_stand;
+use sv_elab_flow::sv_elab_select::{Spot, type_of_target};
+use sv_elab_object::sv_elab_value::values_stand;
+use sv_elab_write::sv_elab_expr::{expr, place_of};
 use sv_elab_write::{actual_args, made, outputs_of_new, value_of_name};
 use sv_flat::{Expr as FlatExpr, Form};
 use sv_names::{Arg, Around, Checked, Hoisted, Refusal, judged};

@@ -9,8 +9,8 @@ ghost use Rattle.sv_names.specs.Subroutines as subroutines;
 ghost use Rattle.sv_names.specs.Views.{around_in, found_in};
 
 use std::alloc::Global;
-use sv_elab_call::arguments;
-use sv_elab_name::{may_be_named, outputs_of};
+use sv_elab_assign::sv_elab_call::arguments;
+use sv_elab_write::sv_elab_name::{may_be_named, outputs_of};
 use sv_flat::Argument;
 use sv_names::{
     Arg, Around, Checked, ClassInfo, Formal, Found, Hoisted, Named, Refusal, declared_in,

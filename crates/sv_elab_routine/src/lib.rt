@@ -23,3 +23,6 @@ mod supers;
 pub use constructors::constructor_made;
 pub use routines::routine_made;
 pub use stands::pure_stands;
+pub use sv_elab_stmt;
+pub use sv_elab_stmt::sv_elab_variable;
+pub use sv_elab_write;

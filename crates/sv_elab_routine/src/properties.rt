@@ -13,9 +13,9 @@ ghost use Rattle.sv_elab_routine.specs.Properties as words;
 
 use crate::assignments::assignment;
 use std::alloc::Global;
+use sv_elab_flow::sv_elab_select::Spot;
 use sv_elab_flow::{in_sequence, needs_activation, nothing, raised, statement};
-use sv_elab_name::{field_typed, this_typed};
-use sv_elab_select::Spot;
+use sv_elab_write::sv_elab_name::{field_typed, this_typed};
 use sv_flat::{Form, Stmt};
 use sv_names::{
     Around, Checked, ClassInfo, Fault, Hoisted, Named, Refusal, Ty, declared_in, judged,

@@ -9,7 +9,7 @@ ghost use Rattle.sv_names.specs.Targets as targets;
 ghost use Rattle.sv_names.specs.Views.{around_in};
 ghost use Rattle.sv_names.specs.Given.{Gives};
 
-use sv_elab_select::hidden_of_spots;
+use sv_elab_call::sv_elab_select::hidden_of_spots;
 use sv_names::{Around, Checked, Refusal, Taken, Typed};
 use sv_value::{Place, Seq};
 

@@ -19,6 +19,7 @@ pub use actuals::{first_output, literal_text, more_outputs};
 pub use behind::{after, behind_arg, behind_spots, behind_value};
 pub use spots::as_concatenation;
 pub use steps::{behind_object, fault_of, in_index, part_step, select_step};
+pub use sv_elab_print;
 pub use system::{system_of, system_value};
 pub use targets::{called_before, kept, selected_before, target_step};
 pub use words::{first_type, no_constructor, outputs_of_system};

@@ -8,7 +8,7 @@ ghost use Rattle.sv_names.specs.Joined.{joined};
 ghost use Rattle.sv_names.specs.Targets as targets;
 
 use std::alloc::Global;
-use sv_elab_select::{Spot, concatenated};
+use sv_elab_call::sv_elab_select::{Spot, concatenated};
 use sv_names::{Checked, Refusal, answer, earlier_in, judged};
 use sv_value::{Place, Seq};
 

@@ -13,8 +13,8 @@ ghost use Rattle.sv_elab_name.specs.Things.{thing_in};
 
 use crate::behind::behind_value;
 use std::alloc::Global;
+use sv_elab_call::sv_elab_select::{part_select_of, select_of};
 use sv_elab_name::{Thing, hidden_behind};
-use sv_elab_select::{part_select_of, select_of};
 use sv_names::{Around, Checked, Dollar, Fault, Refusal, Typed, answer, earlier_in, judged};
 use sv_tree::PartWord;
 use sv_value::Place;

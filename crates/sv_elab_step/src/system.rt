@@ -15,8 +15,10 @@ ghost use Rattle.sv_names.specs.Given.{Gives};
 
 use std::alloc::Global;
 use sv_elab_call::{as_value, cast_called};
+use sv_elab_operator::sv_elab_value::{
+    code_of, converted, expr_of, number_operand, pure, value_typed, values_stand,
+};
 use sv_elab_print::sformatf;
-use sv_elab_value::{code_of, converted, expr_of, number_operand, pure, value_typed, values_stand};
 use sv_flat::{Expr, ExprForm};
 use sv_names::{
     Arg, Around, Called, Checked, Hoisted, Refusal, System, Ty, Typed, answer, int_type,

@@ -18,9 +18,9 @@ ghost use Rattle.sv_elab_step.specs.Before as parts;
 ghost use Rattle.sv_elab_step.specs.Before.{or_else, kept};
 
 use std::alloc::Global;
+use sv_elab_call::sv_elab_select::{Spot, may_be_written, may_begin, selects_stand};
 use sv_elab_name::Thing;
-use sv_elab_select::{Spot, may_be_written, may_begin, selects_stand};
-use sv_elab_value::{expr_of, pure, value_typed};
+use sv_elab_operator::sv_elab_value::{expr_of, pure, value_typed};
 use sv_flat::{Expr, ExprForm, Part};
 use sv_names::{
     Around, Checked, Fault, How, Refusal, Target, Ty, Typed, earlier_in, judged, where_also,

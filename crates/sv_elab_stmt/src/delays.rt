@@ -14,7 +14,7 @@ ghost use Rattle.sv_elab_stmt.specs.Delays as delays;
 use std::alloc::Global;
 use sv_elab_assign::Amount;
 use sv_elab_flow::{needs_activation, raised};
-use sv_elab_write::amount_of;
+use sv_elab_variable::sv_elab_write::amount_of;
 use sv_flat::Form;
 use sv_names::{Around, Checked, Fault, Hoisted, Refusal};
 use sv_tree::{Delay, Expr};

@@ -6,7 +6,7 @@ ghost use Rattle.sv_names.specs.Views.{around_in};
 
 use std::alloc::Global;
 use sv_elab_flow::walked;
-use sv_elab_write::value_of_name;
+use sv_elab_variable::sv_elab_write::value_of_name;
 use sv_names::{Around, Checked, Refusal, Typed};
 use sv_tree::Name;
 

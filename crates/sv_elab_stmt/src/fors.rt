@@ -11,7 +11,7 @@ ghost use Rattle.sv_elab_flow.specs.Parts.{EmitsRoutine};
 
 use std::alloc::Global;
 use sv_elab_flow::{routine, single};
-use sv_elab_write::{assign_value, operated, stepped};
+use sv_elab_variable::sv_elab_write::{assign_value, operated, stepped};
 use sv_flat::{Form, Routine};
 use sv_names::{Around, Hoisted, Refusal};
 use sv_tree::{ForStep, Stmt as TreeStmt};

@@ -18,3 +18,4 @@ mod statement;
 
 pub use events::at_event;
 pub use statement::{stmt, stmts};
+pub use sv_elab_variable;

@@ -12,7 +12,7 @@ use sv_elab_control::{may_wait_here, return_form, trigger};
 use sv_elab_flow::{guarded_code, plain_code, plain_guarded, single};
 use sv_elab_task::{call, ignored_call};
 use sv_elab_value::rule;
-use sv_elab_write::{assigned, later, operated, stepped, timed};
+use sv_elab_variable::sv_elab_write::{assigned, later, operated, stepped, timed};
 use sv_flat::{Form, Stmt as FlatStmt};
 use sv_names::{Around, Refusal};
 use sv_tree::{Body, Stmt};

@@ -36,7 +36,7 @@ use sv_elab_flow::{
 };
 use sv_elab_object::locals_of;
 use sv_elab_variable::declarations;
-use sv_elab_write::{assign_value, first_value};
+use sv_elab_variable::sv_elab_write::{assign_value, first_value};
 use sv_flat::{Declared, Form, Object, Routine, Stmt as FlatStmt};
 use sv_names::{Around, Checked, Hoisted, Refusal, Returns, Scope, Typed, answer, both};
 use sv_tree::{Body, CaseItem, Decl, Expr, ForInit, ForStep, JoinWord, Name, Stmt};

@@ -14,12 +14,12 @@ ghost use Rattle.sv_elab_task.specs.Calling as calling;
 
 use crate::forms::call_form;
 use std::alloc::Global;
+use sv_elab_expr::sv_elab_step::behind_object;
+use sv_elab_expr::sv_elab_thing::AllCalls;
+use sv_elab_expr::sv_elab_value::values_stand;
 use sv_elab_expr::{args, behind_root, place_of_root};
 use sv_elab_flow::{needs_activation, raised};
 use sv_elab_name::{Thing, judged_thing, outputs_behind, root_thing};
-use sv_elab_step::behind_object;
-use sv_elab_thing::AllCalls;
-use sv_elab_value::values_stand;
 use sv_flat::Form;
 use sv_names::{Arg, Around, Called, Checked, Hoisted, Refusal, earlier_in, judged};
 use sv_tree::{Expr, Root, Suffix};

@@ -8,7 +8,7 @@ ghost use Rattle.sv_names.specs.Views.{around_in};
 ghost use Rattle.sv_elab_task.specs.Tasks as tasks;
 
 use std::alloc::Global;
-use sv_elab_value::{constant_number, pure, rule, values_stand};
+use sv_elab_expr::sv_elab_value::{constant_number, pure, rule, values_stand};
 use sv_flat::Form;
 use sv_names::{Arg, Around, Hoisted, Refusal, where_also};
 use sv_value::{Place, Seq};

@@ -10,7 +10,7 @@ ghost use Rattle.sv_names.specs.Given.{Gives};
 ghost use Rattle.sv_elab_task.specs.Forms as forms;
 
 use std::alloc::Global;
-use sv_elab_value::alone;
+use sv_elab_expr::sv_elab_value::alone;
 use sv_flat::{Call, CallForm, Form};
 use sv_names::{Called, Hoisted, Refusal, Typed};
 

@@ -18,7 +18,7 @@ ghost use Rattle.sv_elab_task.specs.Tasks as tasks;
 use crate::actuals::actual_args;
 use crate::rows::in_row;
 use std::alloc::Global;
-use sv_elab_print::all_printed;
+use sv_elab_expr::sv_elab_print::all_printed;
 use sv_flat::{Expr, Form, PrintKind};
 use sv_names::{Arg, Around, Hoisted, Refusal, where_also};
 use sv_tree::Actuals;

@@ -4,7 +4,7 @@ ghost use Rattle.sv_names.specs.declared.refusal.Refusal.TheVariants.{Memory};
 ghost use Rattle.sv_names.specs.Hoisted as hoisted;
 
 use std::alloc::Global;
-use sv_elab_value::{paired, pure};
+use sv_elab_expr::sv_elab_value::{paired, pure};
 use sv_flat::Expr;
 use sv_names::{Hoisted, Refusal};
 use sv_value::Seq;

@@ -9,7 +9,7 @@ ghost use Rattle.sv_elab_name.specs.Things.{thing_in};
 use std::alloc::Global;
 use sv_elab_method::size_expr;
 use sv_elab_name::Thing;
-use sv_elab_value::expr_of;
+use sv_elab_operator::sv_elab_value::expr_of;
 use sv_flat::{Expr, ExprForm};
 use sv_names::{Checked, Dollar, Refusal, Typed};
 use sv_value::{BinOp, Bits};

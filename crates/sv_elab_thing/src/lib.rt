@@ -15,3 +15,6 @@ pub use calls::AllCalls;
 pub use conversions::cast;
 pub use dollar::dollar_behind;
 pub use steps::{call_step, member_step, value_step};
+pub use sv_elab_call;
+pub use sv_elab_call::sv_elab_select;
+pub use sv_elab_operator;

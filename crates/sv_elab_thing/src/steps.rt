@@ -11,7 +11,7 @@ use crate::calls::AllCalls;
 use std::alloc::Global;
 use sv_elab_call::as_value;
 use sv_elab_name::{Thing, judged_thing};
-use sv_elab_value::values_stand;
+use sv_elab_operator::sv_elab_value::values_stand;
 use sv_names::{Arg, Around, Checked, Refusal, Typed, earlier_in, judged};
 use sv_tree::Name;
 use sv_value::{Place, Seq};

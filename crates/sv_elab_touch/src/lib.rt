@@ -18,4 +18,5 @@ mod written;
 
 pub use exprs::{add_actuals, add_expr, add_exprs};
 pub use lvals::{add_lval, add_selects};
+pub use sv_elab_expr;
 pub use targets::add_target;

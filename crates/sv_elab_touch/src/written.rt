@@ -4,7 +4,7 @@ ghost use Rattle.sv_names.specs.Writers as writers;
 ghost use Rattle.sv_elab_touch.specs.Touched.{Touched, good_touches};
 
 use std::alloc::Global;
-use sv_elab_select::Spot;
+use sv_elab_expr::sv_elab_select::Spot;
 use sv_elab_writers::Touch;
 use sv_names::{Begin, Checked, Path, Typed, copy_path};
 use sv_value::{NoMemory, Place, Seq};

@@ -22,5 +22,7 @@ pub use elements::{may_be_item, may_be_key};
 pub use items::item_value;
 pub use meaning::{Alone, value_of_entry};
 pub use parameters::parameter_value;
+pub use sv_elab_expr;
+pub use sv_elab_expr::sv_elab_value;
 pub use types::{implied, place_of_type, type_of};
 pub use vectors::{bound, is_signed, vector_type};

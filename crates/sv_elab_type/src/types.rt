@@ -16,7 +16,7 @@ use crate::elements::item_of;
 use crate::enums::{enum_over, plain_enum, waiting_scope, with_scope};
 use crate::vectors::{is_signed, vector_type};
 use std::alloc::Global;
-use sv_elab_operator::{atom_type, has_four_states};
+use sv_elab_expr::sv_elab_operator::{atom_type, has_four_states};
 use sv_names::{Around, Meaning, Named, Refusal, Ty, copy_path, first, plain_vector, whole};
 use sv_tree::{AtomWord, ImpliedType, Name, Range, Sign, WrittenType};
 use sv_value::{Integral, Place, Text};

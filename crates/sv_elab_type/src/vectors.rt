@@ -8,8 +8,8 @@ ghost use Rattle.sv_names.specs.Views.{around_in};
 ghost use Rattle.sv_names.specs.Given.{Gives};
 
 use std::alloc::Global;
+use sv_elab_expr::sv_elab_value::constant_number;
 use sv_elab_expr::{expr, place_of};
-use sv_elab_value::constant_number;
 use sv_flat::Bounds;
 use sv_names::{Around, Refusal, Ty, both, plain_vector};
 use sv_tree::{Expr, Range, Sign};

@@ -14,4 +14,5 @@ mod words;
 
 pub use alone::initial_broken;
 pub use openings::initial_of;
+pub use sv_elab_write;
 pub use variables::declarations;

@@ -17,10 +17,10 @@ use sv_elab_assign::{
     Source, array_at_opening, at_opening, copy_at_opening, object_at_opening, sync_at_opening,
     value_at_opening,
 };
-use sv_elab_expr::{expr, place_of};
-use sv_elab_select::Spot;
-use sv_elab_step::behind_value;
-use sv_elab_value::{expr_of, pure, value_typed};
+use sv_elab_flow::sv_elab_select::Spot;
+use sv_elab_object::sv_elab_value::{expr_of, pure, value_typed};
+use sv_elab_write::sv_elab_expr::{expr, place_of};
+use sv_elab_write::sv_elab_step::behind_value;
 use sv_elab_write::{actual_args, made, outputs_of_new, value_of_name};
 use sv_flat::{ExprForm, Initial};
 use sv_names::{Arg, Around, Named, Refusal, Ty, judged};

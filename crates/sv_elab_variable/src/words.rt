@@ -5,8 +5,8 @@ ghost use Rattle.sv_names.specs.Assignments as assignments;
 ghost use Rattle.sv_names.specs.Blocks as blocks;
 ghost use Rattle.sv_names.specs.Given.{Gives};
 
-use sv_elab_expr::place_of;
-use sv_elab_value::rule;
+use sv_elab_object::sv_elab_value::rule;
+use sv_elab_write::sv_elab_expr::place_of;
 use sv_names::Refusal;
 use sv_tree::{Init, Life};
 use sv_value::Place;

@@ -10,7 +10,7 @@ ghost use Rattle.sv_elab_walk.specs.Givens.{kept_in, given_at};
 
 use std::alloc::Global;
 use sv_elab_declare::GivenValue;
-use sv_elab_expr::{expr, place_of};
+use sv_elab_head::sv_elab_expr::{expr, place_of};
 use sv_elab_scope::Source;
 use sv_elab_signal::{known, share_name};
 use sv_names::{Around, Checked, Typed};

@@ -18,4 +18,5 @@ mod walk;
 
 pub use instance::{Inst, Walked};
 pub use seen::{Seen, around_unit, seen_in};
+pub use sv_elab_head;
 pub use walk::walked;

@@ -22,10 +22,10 @@ use sv_elab_assign::{
     Source, assign, assign_array, assign_copy, assign_later, assign_new, behind_target,
     later_around, operand_around, source_around, step, timing_stands, update, value_around,
 };
+use sv_elab_expr::sv_elab_select::Spot;
+use sv_elab_expr::sv_elab_value::values_stand;
 use sv_elab_expr::{expr, place_of};
 use sv_elab_flow::{needs_activation, raised};
-use sv_elab_select::Spot;
-use sv_elab_value::values_stand;
 use sv_flat::Form;
 use sv_names::{Around, Checked, Hoisted, How, Refusal, judged};
 use sv_tree::{

@@ -21,4 +21,6 @@ pub use assignments::{
 };
 pub use names::value_of_name;
 pub use news::{actual_args, made, outputs_of_new};
+pub use sv_elab_expr;
+pub use sv_elab_expr::{sv_elab_name, sv_elab_step};
 pub use targets::{place_of_target, target_of};

@@ -13,8 +13,8 @@ ghost use Rattle.sv_elab_write.specs.Variables as variables;
 
 use std::alloc::Global;
 use sv_elab_expr::named;
-use sv_elab_name::{local_typed, object_typed};
-use sv_elab_select::Spot;
+use sv_elab_expr::sv_elab_name::{local_typed, object_typed};
+use sv_elab_expr::sv_elab_select::Spot;
 use sv_names::{Around, Begin, Checked, Fault, Named, Refusal, Typed, copy_path, judged};
 use sv_tree::{Name, Root};
 use sv_value::{Place, Seq};

@@ -18,11 +18,11 @@ use std::alloc::Global;
 use sv_elab_assign::{
     Amount, mailbox_made, nothing_made, object_made, semaphore_made, value_around,
 };
-use sv_elab_call::{arguments, in_row};
 use sv_elab_expr::args;
-use sv_elab_name::{may_be_named, outputs_of};
-use sv_elab_select::{Spot, type_of_target};
-use sv_elab_value::rule;
+use sv_elab_expr::sv_elab_call::{arguments, in_row};
+use sv_elab_expr::sv_elab_name::{may_be_named, outputs_of};
+use sv_elab_expr::sv_elab_select::{Spot, type_of_target};
+use sv_elab_expr::sv_elab_value::rule;
 use sv_flat::{Argument, CallForm, Expr};
 use sv_names::{
     Arg, Around, Checked, ClassInfo, Found, Hoisted, Named, Refusal, Ty, class_in, declared_in,

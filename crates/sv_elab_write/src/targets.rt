@@ -9,9 +9,9 @@ ghost use Rattle.sv_names.specs.Expressions as expressions;
 ghost use Rattle.sv_names.specs.Views.{around_in};
 
 use std::alloc::Global;
+use sv_elab_expr::sv_elab_select::Spot;
+use sv_elab_expr::sv_elab_step::{as_concatenation, behind_spots};
 use sv_elab_expr::{place_of_root, target_of_name};
-use sv_elab_select::Spot;
-use sv_elab_step::{as_concatenation, behind_spots};
 use sv_names::{Around, Checked, Fault, How, Refusal};
 use sv_tree::Lval;
 use sv_value::{Place, Seq};
