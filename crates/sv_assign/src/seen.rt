@@ -50,21 +50,6 @@ impl Scoped for Seen<'_, '_> {
     }
 }
 
-impl<'s, 'a> Seen<'s, 'a> {
-    /// The same, seen from another scope.
-    pub fn within(&self, scope: Option<Name>) -> Seen<'s, 'a>
-        ensures { result ≡ record self.now { scope = scope } }
-    {
-        Seen {
-            store: self.store,
-            activations: self.activations,
-            scope,
-            time: self.time,
-            unit: self.unit,
-        }
-    }
-}
-
 /// The same before a change, told by what was changed (IEEE 1800-2017, 9.4.2).
 #[derive(Clone, Copy)]
 pub struct Before<'s, 'a, 'o> {

@@ -1,6 +1,6 @@
 -- What a change leaves as it was: the values of all objects but one, or those of all objects; and each wait after it.
-use Rattle.std.proofs.Common.{◌≡◌, ◌≢◌, ℕ, zero, suc, Bool, true, false, List, [], ◌∷◌, Option, None, Some, refl, ap, arith}
-use Rattle.std.specs.Prelude.{slice_get, ◌==◌, if◌then◌else◌}
+use Rattle.std.proofs.Common.{◌≡◌, ◌≢◌, ℕ, Bool, true, false, List, Option, refl, arith}
+use Rattle.std.specs.Prelude.{◌==◌, if◌then◌else◌}
 use Rattle.std.proofs.lemmas.Bool.Decides.{nat_tests}
 use Rattle.sv_value.specs.declared.number.ObjId.{ObjId}
 use Rattle.sv_value.specs.declared.val.Val.{Val}
@@ -9,8 +9,7 @@ use Rattle.sv_store.specs.declared.change.Overwritten.{Overwritten}
 use Rattle.sv_store.specs.Overwrites.{object_before, value_before}
 use Rattle.sv_assign.specs.Seen.{Change, Of_object, Of_variable, change_in, view_before, view_in}
 use Rattle.sv_assign.specs.declared.seen.Before.{Before}
-use Rattle.sv_sense.specs.declared.waiter.Waiter.{Waiter}
-use Rattle.sv_sense.specs.Wakes.{Scenes, scenes_before, scenes_after, waits_after}
+use Rattle.sv_sense.specs.Wakes.{Scenes, scenes_before, scenes_after}
 
 -- ---- what is seen
 
@@ -57,12 +56,3 @@ is_change b = by_change (change_in b.change.now)
     by_change : (k : Change) → IsChange k (λ scope. view_before k b.store.now b.activations.now.activations b.time b.unit scope) (scenes_after b)
     by_change (Of_object w) = object_changed w b.store.now b.activations.now.activations b.time b.unit
     by_change (Of_variable n p x) = variable_changed n p x b.store.now b.activations.now.activations b.time b.unit
-
--- ---- each wait
-
--- a process that was woken waits no longer, and each other waits as before
-pub after_at : (t : Option Waiter → Bool) (ws : List (Option Waiter)) (i : ℕ) (w : Option Waiter) → slice_get ws i ≡ Some w
-    → slice_get (waits_after t ws) i ≡ Some (if t w then None else w)
-after_at t [] i w e = absurd (cc)
-after_at t (v ∷ ws) zero w e = (let z : v ≡ w = cc in ap (λ (x : Option Waiter). Some (if t x then None else x)) z)
-after_at t (v ∷ ws) (suc i) w e = after_at t ws i w e

@@ -7,5 +7,4 @@ pub mod RegisterLaws
 pub mod HeardLaws
 pub mod TryLaws
 pub mod SenseLaws
-pub mod WokenLaws
 pub mod ChangeLaws

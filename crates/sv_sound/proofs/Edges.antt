@@ -1,24 +1,17 @@
 -- A value that stays makes no edge of a clocking event.
-use Rattle.std.proofs.Common.{ℕ, ◌≡◌, ◌+◌, List, [], ◌∷◌, Option, None, Some, Bool, true, false, refl, ap, ◌∙◌}
-use Rattle.std.specs.Prelude.{not, ◌&&◌, if◌then◌else◌}
+use Rattle.std.proofs.Common.{ℕ, ◌≡◌, List, [], ◌∷◌, Option, None, Some, Bool, true, false, refl, ap, ◌∙◌}
+use Rattle.std.specs.Prelude.{not, ◌&&◌}
 use Rattle.std.proofs.lemmas.Bool.{eq-eqb}
 use Rattle.sv_value.specs.declared.word.Sym.{Sym}
 use Rattle.sv_value.specs.declared.word.Sym.TheVariants.{Zero, One, X, Z}
 use Rattle.sv_value.specs.declared.number.Key.{Key}
 use Rattle.sv_value.specs.declared.val.Val.{Val}
 use Rattle.sv_value.specs.declared.val.Val.TheVariants as val
-use Rattle.sv_value.specs.declared.schedule.Region.TheVariants.{Observed}
-use Rattle.sv_value.specs.declared.schedule.Job.TheVariants.{Clock}
 use Rattle.sv_value.specs.Operators.{is_true, all_same, same_symbol, one_bit, bit_of}
-use Rattle.sv_value.specs.Regions.{Regions, job_in}
 use Rattle.sv_flat.specs.declared.process.Edge.{Edge}
 use Rattle.sv_flat.specs.declared.process.Edge.TheVariants.{Change, Posedge, Negedge, Trigger}
-use Rattle.sv_flat.specs.declared.clocking.Clocking.{Clocking}
-use Rattle.sv_flat.specs.State.{Store, value_at}
 use Rattle.sv_flat.specs.Eval.{same_bytes, same_reference}
-use Rattle.sv_flat.specs.Config.{Config}
 use Rattle.sv_flat.specs.Woken.{makes, rises, falls, least_symbol, same_values}
-use Rattle.sv_flat.specs.Effects.{clocks_from}
 
 no_rise : (s : Sym) → rises s s ≡ false
 no_rise Zero = refl
@@ -65,12 +58,3 @@ makes_none Change x = ap not (same_self x)
 makes_none Posedge x = no_rise (least_symbol x)
 makes_none Negedge x = no_fall (least_symbol x)
 makes_none Trigger x = refl
-
--- the store stays, so no clocking event is made
-pub clocks_quiet : (n : ℕ) (ks : List Clocking) (old new : Config) → new.store ≡ old.store → (r : Regions) → clocks_from n ks old new r ≡ r
-clocks_quiet n [] old new e r = refl
-clocks_quiet n (k ∷ ks) old new e r =
-    let update : Bool → Regions = λ b. if b then job_in Observed (Clock (record { 0 = n })) r else r in
-    ap (λ (s : Store). clocks_from (n + 1) ks old new (update (makes k.edge (value_at old.store k.event 0) (value_at s k.event 0)))) e
-    ∙ ap (λ (b : Bool). clocks_from (n + 1) ks old new (update b)) (makes_none k.edge (value_at old.store k.event 0))
-    ∙ clocks_quiet (n + 1) ks old new e r
