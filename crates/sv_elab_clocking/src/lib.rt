@@ -14,4 +14,3 @@ mod signals;
 mod skews;
 
 pub use blocks::clocking_of;
-pub use sv_elab_expr;

@@ -24,3 +24,4 @@ pub use links::{Linked, linked_port};
 pub use nets::net_made;
 pub use ports::port_link;
 pub use stands::{connections_stand, expr_stands};
+pub use sv_elab_expr;

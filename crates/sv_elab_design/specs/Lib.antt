@@ -1,5 +1,1 @@
-pub mod Scales
-pub mod Walks
-pub mod Collected
-pub mod Numbering
 pub mod Elaborating

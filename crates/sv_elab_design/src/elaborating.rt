@@ -10,15 +10,9 @@ ghost use Rattle.sv_names.specs.Items.{GivenParts as given_parts};
 ghost use Rattle.sv_names.specs.Views.{around_in, numbers_in};
 ghost use Rattle.sv_elab_scope.specs.Rows.{group_in};
 ghost use Rattle.sv_elab_walk.specs.Insts.{walked_in};
-ghost use Rattle.sv_elab_design.specs.Collected.{GivesParts, IsGiven};
+ghost use Rattle.sv_elab_whole.specs.Collected.{GivesParts, IsGiven};
 ghost use Rattle.sv_elab_design.specs.Elaborating as words;
 
-use crate::files::{classes_of, file_group, nowhere, scopes_of};
-use crate::finishing::parts_from;
-use crate::instances::{classes_in, instances_in, programs_in};
-use crate::meeting::all_met_stand;
-use crate::numbering::{no_numbers, numbers_of};
-use crate::scales::{scale_of, scales_agree};
 use std::alloc::Global;
 use sv_elab_comb::watching;
 use sv_elab_item::add_given;
@@ -26,6 +20,10 @@ use sv_elab_parts::SoFar;
 use sv_elab_scope::Group;
 use sv_elab_unit::{Units, roots};
 use sv_elab_walk::{Walked, walked};
+use sv_elab_whole::{
+    all_met_stand, classes_in, classes_of, file_group, instances_in, no_numbers, nowhere,
+    numbers_of, parts_from, programs_in, scale_of, scales_agree, scopes_of,
+};
 use sv_flat::{Parts, Scale};
 use sv_names::{Around, Dollar, Numbers, Refusal, Returns, answer, first, where_also};
 use sv_tree::{Description, Timescale};

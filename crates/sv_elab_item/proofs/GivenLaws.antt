@@ -19,9 +19,9 @@ use Rattle.sv_names.specs.Types.{Path}
 use Rattle.sv_elab_parts.specs.declared.so_far.SoFar.{SoFar}
 use Rattle.sv_elab_parts.specs.Adding.{Adds, Adding, so_far_in}
 use Rattle.sv_elab_clocking.specs.Making.{IsClocking}
-use Rattle.sv_elab_item.specs.Adding.{AddsObjects, AreProcesses, AddsProcesses, sooner}
-use Rattle.sv_elab_item.specs.Parts.{only_objects, only_processes, objects_and_processes}
-use Rattle.sv_elab_item.proofs.CheckedLaws.{good_given, good_where, fails_given, fails_left, fails_right, fails_both}
+use Rattle.sv_elab_plain.specs.Adding.{AddsObjects, AreProcesses, AddsProcesses, sooner}
+use Rattle.sv_elab_plain.specs.Parts.{only_objects, only_processes, objects_and_processes}
+use Rattle.sv_elab_plain.proofs.CheckedLaws.{good_given, good_where, fails_given, fails_left, fails_right, fails_both}
 
 -- ---- objects
 

@@ -12,7 +12,7 @@ use Rattle.sv_names.specs.Joined.{joined, put_behind}
 use Rattle.sv_names.specs.Named.{Around}
 use Rattle.sv_names.proofs.Joined.{next_joined, joined_first, joined_last, joined_grouped}
 use Rattle.sv_elab_flow.proofs.Left.{first_left}
-use Rattle.sv_elab_item.specs.Files.{file_scope}
+use Rattle.sv_elab_plain.specs.Files.{file_scope}
 use Rattle.sv_elab_item.specs.Given.{described, all_described, outside_given, walked_given}
 
 -- one part before a list is a list of it before the list

@@ -1,14 +1,5 @@
-mod BlockLaws
-mod CheckedLaws
-mod CommonLaws
-mod DefaultLaws
-mod EachLaws
-mod FileLaws
 mod GivenLaws
 mod GivenListLaws
 mod ItemLaws
-mod ObjectLaws
-mod PathLaws
-mod ProcessLaws
 mod ProcedureLaws
 mod StepLaws

@@ -5,7 +5,7 @@ use Rattle.std.proofs.Common.{List}
 use Rattle.sv_names.specs.Instances.{Inst, Walked, Enter, Meet, Connect, Pass}
 use Rattle.sv_names.specs.Items.{around_inst, walked_parts}
 use Rattle.sv_names.specs.Named.{Around}
-use Rattle.sv_elab_item.specs.Steps.{inst_of, step_given}
+use Rattle.sv_elab_plain.specs.Steps.{inst_of, step_given}
 
 -- an instance that is there, or another one
 abbrev inst_or : Inst → Option Inst → Inst

@@ -4,7 +4,7 @@ ghost use Rattle.sv_tree.specs.UnitView.{item as item_in};
 ghost use Rattle.sv_names.specs.Items as items;
 ghost use Rattle.sv_names.specs.Views.{around_in};
 ghost use Rattle.sv_elab_parts.specs.Adding.{Adding};
-ghost use Rattle.sv_elab_item.specs.Parts as parts;
+ghost use Rattle.sv_elab_plain.specs.Parts as parts;
 
 use std::alloc::Global;
 use sv_elab_member::class_made;
@@ -16,7 +16,7 @@ use sv_tree::{Class, Item, Qualifiers, Routine};
 use sv_value::Text;
 
 /// Puts a class behind what stands so far.
-#[tactic(auto, using(crate::proofs::CommonLaws::class_missing, crate::proofs::CommonLaws::nothing_added))]
+#[tactic(auto, using(sv_elab_plain::proofs::CommonLaws::class_missing, sv_elab_plain::proofs::CommonLaws::nothing_added))]
 fn add_class(
     alloc: Global,
     around: &Around,
@@ -62,7 +62,7 @@ fn add_routine(
 }
 
 /// Puts what an item is in any scope behind what stands so far: a class or a subroutine, or nothing.
-#[tactic(auto, using(crate::proofs::CommonLaws::nothing_added))]
+#[tactic(auto, using(sv_elab_plain::proofs::CommonLaws::nothing_added))]
 pub(crate) fn add_common(
     alloc: Global,
     around: &Around,

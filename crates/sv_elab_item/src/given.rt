@@ -9,10 +9,10 @@ ghost use Rattle.sv_elab_walk.specs.Insts.{walked_in};
 ghost use Rattle.sv_elab_item.specs.Given as words;
 
 use crate::common::add_common;
-use crate::files::add_file_scope;
 use crate::walked::add_walked;
 use std::alloc::Global;
 use sv_elab_parts::{SoFar, and_adding};
+use sv_elab_plain::add_file_scope;
 use sv_elab_scope::Group;
 use sv_elab_unit::Units;
 use sv_elab_walk::Walked;

@@ -8,18 +8,17 @@ ghost use Rattle.sv_names.specs.Given.{Gives};
 ghost use Rattle.sv_names.specs.Views.{around_in};
 ghost use Rattle.sv_elab_parts.specs.Adding.{Adding};
 ghost use Rattle.sv_elab_walk.specs.Insts.{inst_in};
-ghost use Rattle.sv_elab_item.specs.Parts as parts;
+ghost use Rattle.sv_elab_plain.specs.Parts as parts;
 
-use crate::beside::sooner;
 use crate::common::add_common;
-use crate::instances::instances_stand;
-use crate::objects::{add_nets, add_variables};
 use crate::procedures::add_procedure;
-use crate::processes::{add_assigns, add_net_values};
 use std::alloc::Global;
 use sv_elab_clocking::clocking_of;
-use sv_elab_connect::connections_stand;
 use sv_elab_parts::{SoFar, guarded_adding};
+use sv_elab_plain::sv_elab_connect::connections_stand;
+use sv_elab_plain::{
+    add_assigns, add_net_values, add_nets, add_variables, instances_stand, sooner,
+};
 use sv_elab_signal::within;
 use sv_elab_unit::Units;
 use sv_elab_walk::Inst;
@@ -155,7 +154,7 @@ fn default_stands(around: &Around, name: &Name) -> Result<(), Refusal>
 }
 
 /// Puts what an item of an instance gives behind what stands so far.
-#[tactic(auto, using(crate::proofs::CommonLaws::nothing_added))]
+#[tactic(auto, using(sv_elab_plain::proofs::CommonLaws::nothing_added))]
 pub(crate) fn add_item(
     alloc: Global,
     units: &Units,

@@ -7,7 +7,7 @@ ghost use Rattle.sv_names.specs.Emits.{Emits};
 ghost use Rattle.sv_names.specs.Items as items;
 ghost use Rattle.sv_names.specs.Views.{around_in};
 ghost use Rattle.sv_elab_parts.specs.Adding.{Adding};
-ghost use Rattle.sv_elab_item.specs.Parts as parts;
+ghost use Rattle.sv_elab_plain.specs.Parts as parts;
 
 use std::alloc::Global;
 use sv_elab_flow::guarded_code;

@@ -1,5 +1,5 @@
 // What is met on the walk (IEEE 1800-2017, 23.2 and 23.3): E5, E8, E44, E48.
-ghost use Rattle.std.specs.Prelude.{◌≡◌, ◌-◌, ◌^◌, Some, min, map, option_map};
+ghost use Rattle.std.specs.Prelude.{◌≡◌, ◌-◌, ◌^◌, Some, min, map};
 ghost use Rattle.sv_tree.specs.UnitView.{connection, description, item as item_in};
 ghost use Rattle.sv_names.specs.Blocks as blocks;
 ghost use Rattle.sv_names.specs.Given.{Gives};
@@ -7,35 +7,21 @@ ghost use Rattle.sv_names.specs.Items as items;
 ghost use Rattle.sv_names.specs.Views.{around_in};
 ghost use Rattle.sv_elab_parts.specs.Adding.{Adding};
 ghost use Rattle.sv_elab_walk.specs.Insts.{inst_in, walked_in};
-ghost use Rattle.sv_elab_item.specs.Parts as parts;
-ghost use Rattle.sv_elab_item.specs.Steps as words;
+ghost use Rattle.sv_elab_plain.specs.Parts as parts;
+ghost use Rattle.sv_elab_plain.specs.Steps as words;
 
-use crate::defaults::{default_in, one_default};
 use crate::items::add_item;
-use crate::objects::add_ports;
-use crate::processes::add_links;
 use std::alloc::Global;
-use sv_elab_connect::{connections_fit, connections_stand};
 use sv_elab_object::known_stand;
 use sv_elab_parts::{SoFar, guarded_adding};
+use sv_elab_plain::sv_elab_connect::{connections_fit, connections_stand};
+use sv_elab_plain::{add_links, add_ports, default_in, one_default};
 use sv_elab_unit::{Units, port_names, ports_of};
 use sv_elab_walk::{Inst, Seen, Walked, around_unit, seen_in};
 use sv_names::{Around, Checked, Refusal, answer, same_bytes};
 use sv_tree::{Connection, ImpliedType, Item, Name};
 
 // ---- where it stands
-
-/// The instance in which a step stands; none where the walk passes its limit.
-pub fn inst_of<'f, 't>(step: &'f Walked<'t>) -> Option<&'f Inst<'t>>
-    ensures { option_map (λ i. inst_in i.now) result ≡ words.inst_of (walked_in step.now) }
-{
-    match step {
-        Walked::Enter(inst) => Some(&**inst),
-        Walked::Meet { of, .. } => Some(&**of),
-        Walked::Connect { outer, .. } => Some(&**outer),
-        Walked::Pass(_) => None,
-    }
-}
 
 /// What is seen behind so many blocks of the unit.
 fn after_blocks<'a>(around: &Around<'a>, made: u32) -> Around<'a>

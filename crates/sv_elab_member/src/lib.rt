@@ -17,4 +17,4 @@ mod within;
 
 pub use classes::class_made;
 pub use sv_elab_routine;
-pub use sv_elab_routine::{sv_elab_stmt, sv_elab_variable, sv_elab_write};
+pub use sv_elab_routine::sv_elab_stmt;

@@ -1,6 +1,2 @@
-pub mod ObjectLaws
 pub mod BodyLaws
-pub mod SuperLaws
-pub mod PropertyLaws
-pub mod StandLaws
 pub mod MadeLaws

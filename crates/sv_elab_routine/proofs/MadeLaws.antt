@@ -16,7 +16,7 @@ use Rattle.sv_names.specs.Named.{Around, nearest}
 use Rattle.sv_names.specs.Subroutines.{Before, MadeSubroutine, body_scope, returns_of, made_over, routine_stands, No_super, constructor_before, implied_constructor, routine_at, this_scope, constructor_path}
 use Rattle.sv_names.specs.Types.{Path}
 use Rattle.sv_elab_routine.specs.declared.bodies.Manner.{Manner}
-use Rattle.sv_elab_routine.specs.Befores.{construction}
+use Rattle.sv_elab_before.specs.Befores.{construction}
 use Rattle.sv_elab_routine.specs.Bodies.{inner, body_code, routine_over, routine_within}
 use Rattle.sv_elab_routine.specs.Made.{routine_of, over_scope, chosen, constructor_among, implied_subroutine, implied_within}
 use Rattle.sv_elab_routine.proofs.BodyLaws.{given_twice, given_guarded}

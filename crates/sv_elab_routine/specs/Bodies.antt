@@ -6,24 +6,17 @@ use Rattle.sv_tree.specs.Stmt as tree_stmt
 use Rattle.sv_tree.specs.Stmt.{Decl}
 use Rattle.sv_tree.specs.Units.{Head}
 use Rattle.sv_names.specs.declared.around.Returns.{Returns}
-use Rattle.sv_value.specs.declared.place.Place.{Place}
 use Rattle.sv_names.specs.declared.checked.Checked.{Checked}
-use Rattle.sv_names.specs.declared.checked.Checked.TheVariants.{Good}
-use Rattle.sv_names.specs.declared.named.Kind.TheVariants.{Object as Of_object}
-use Rattle.sv_names.specs.declared.named.Known.{Known}
-use Rattle.sv_names.specs.declared.named.Named.TheVariants.{Local}
-use Rattle.sv_names.specs.declared.ty.Ty.TheVariants.{Class}
-use Rattle.sv_names.specs.Types.{Path}
 use Rattle.sv_names.specs.declared.scope.Scope.{Scope}
 use Rattle.sv_names.specs.Blocks.{decls_code, in_sequence}
 use Rattle.sv_names.specs.Checked.{given}
 use Rattle.sv_names.specs.Code.{Numbered, Code, with_objects}
-use Rattle.sv_names.specs.Entries.{is_task, taken, this_name}
+use Rattle.sv_names.specs.Entries.{is_task, taken}
 use Rattle.sv_names.specs.Named.{Around}
 use Rattle.sv_names.specs.Statements.{stmts}
 use Rattle.sv_names.specs.Subroutines.{Before, in_body, subroutine_of, routine_at, object_formal, argument_formals, result_formal}
 use Rattle.sv_elab_routine.specs.declared.bodies.Manner.{Manner}
-use Rattle.sv_elab_routine.specs.Objects.{own_objects}
+use Rattle.sv_elab_before.specs.Objects.{own_objects}
 
 -- where its statements stand
 abbrev pub inner : Around → Scope → Manner → Returns → Around
@@ -49,7 +42,3 @@ routine_inside ar i s auto h ds xs before = given (routine_over ar i s auto h) (
 -- its routine in its scope
 abbrev pub routine_within : Around → Scope → Manner → Returns → Head → List Decl → tree_stmt.Stmts → Before → Checked (Numbered Routine)
 routine_within ar s m r h ds xs before = routine_inside ar (inner ar s m r) s m.is_automatic h ds xs before
-
--- the object of a constructor, by its name
-abbrev pub this_known : Path → Place → Known
-this_known k at = record { name = this_name at; kind = Of_object; value = Good (Local 0 0 (Class k)) }

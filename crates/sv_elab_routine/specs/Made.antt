@@ -19,7 +19,7 @@ use Rattle.sv_names.specs.Named.{Around, nearest}
 use Rattle.sv_names.specs.Subroutines.{Before, MadeSubroutine, subroutine_in, body_scope, implied_constructor, written_constructor, subroutine_of, routine_at, constructor_before, No_super}
 use Rattle.sv_names.specs.declared.ty.Ty.TheVariants.{Class}
 use Rattle.sv_names.specs.Types.{Path, data_of}
-use Rattle.sv_elab_routine.specs.Befores.{construction}
+use Rattle.sv_elab_before.specs.Befores.{construction}
 
 -- the routine of a subroutine
 abbrev pub routine_of : Checked MadeSubroutine → Checked (Numbered Routine)

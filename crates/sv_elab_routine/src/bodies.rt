@@ -13,13 +13,12 @@ ghost use Rattle.sv_names.specs.Entries as entries;
 ghost use Rattle.sv_names.specs.Given.{Gives};
 ghost use Rattle.sv_names.specs.Subroutines as subroutines;
 ghost use Rattle.sv_names.specs.Views.{around_in};
-ghost use Rattle.sv_elab_routine.specs.Befores.{before_in};
+ghost use Rattle.sv_elab_before.specs.Befores.{before_in};
 ghost use Rattle.sv_elab_routine.specs.Bodies as words;
 
-use crate::befores::{Before, before_made};
-use crate::objects::add_objects;
 use std::alloc::Global;
-use sv_elab_flow::{enclosed, in_sequence};
+use sv_elab_before::sv_elab_flow::{enclosed, in_sequence};
+use sv_elab_before::{Before, add_objects, before_made};
 use sv_elab_object::{home_of, locals_of};
 use sv_elab_stmt::stmts;
 use sv_elab_stmt::sv_elab_variable::declarations;

@@ -11,14 +11,12 @@ ghost use Rattle.sv_names.specs.Views.{around_in};
 ghost use Rattle.sv_elab_routine.specs.Bodies as bodies;
 ghost use Rattle.sv_elab_routine.specs.Made as words;
 
-use crate::befores::{Before, constructor_before};
 use crate::bodies::routine_with;
 use crate::routines::subroutine_made;
-use crate::scopes::this_scope;
-use crate::supers::{Opening, after_opening, opening_of};
 use std::alloc::Global;
+use sv_elab_before::sv_elab_flow::enclosed;
+use sv_elab_before::{Before, Opening, after_opening, constructor_before, opening_of, this_scope};
 use sv_elab_declare::is_constructor;
-use sv_elab_flow::enclosed;
 use sv_elab_object::{home_of, locals_of};
 use sv_elab_scope::DeclaredRoutine;
 use sv_elab_subroutine::in_body;

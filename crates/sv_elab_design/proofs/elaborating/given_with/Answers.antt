@@ -1,5 +1,5 @@
 -- What the items give stands behind nothing.
-use Rattle.sv_elab_design.proofs.GivenLaws.{all_given}
+use Rattle.sv_elab_whole.proofs.GivenLaws.{all_given}
 use Rattle.sv_elab_design.proofs.elaborating.given_with.Goals as goal
 
 pub returns-in-Ok : goal.returns-in-Ok

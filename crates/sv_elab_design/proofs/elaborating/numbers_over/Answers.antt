@@ -4,8 +4,8 @@ use Rattle.std.specs.Prelude.{flat_map}
 use Rattle.sv_names.specs.Design.{class_infos, instance_of}
 use Rattle.sv_elab_scope.specs.Rows.{group_in}
 use Rattle.sv_elab_walk.specs.Insts.{walked_in}
-use Rattle.sv_elab_design.specs.Numbering.{numbers_by}
-use Rattle.sv_elab_design.proofs.NumberLaws.{numbers_given}
+use Rattle.sv_elab_whole.specs.Numbering.{numbers_by}
+use Rattle.sv_elab_whole.proofs.NumberLaws.{numbers_given}
 use Rattle.sv_elab_design.proofs.elaborating.numbers_over.Goals as goal
 
 pub returns : goal.returns

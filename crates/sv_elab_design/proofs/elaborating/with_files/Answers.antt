@@ -10,7 +10,7 @@ use Rattle.sv_names.specs.Types.{Numbers}
 use Rattle.sv_names.specs.Views.{around_in}
 use Rattle.sv_elab_scope.specs.Rows.{group_in}
 use Rattle.sv_elab_walk.specs.Insts.{walked_in}
-use Rattle.sv_elab_design.specs.Walks.{settled_files}
+use Rattle.sv_elab_whole.specs.Walks.{settled_files}
 use Rattle.sv_elab_design.proofs.ElaboratingLaws.{files_seen}
 use Rattle.sv_elab_design.proofs.elaborating.with_files.Goals as goal
 

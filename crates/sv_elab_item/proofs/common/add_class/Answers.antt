@@ -7,7 +7,7 @@ use Rattle.sv_names.specs.Named.{class_in}
 use Rattle.sv_names.specs.Types.{Path}
 use Rattle.sv_names.specs.Views.{around_in}
 use Rattle.sv_elab_parts.specs.Adding.{Adding}
-use Rattle.sv_elab_item.proofs.CommonLaws.{nothing_added, class_missing, class_found}
+use Rattle.sv_elab_plain.proofs.CommonLaws.{nothing_added, class_missing, class_found}
 use Rattle.sv_elab_item.proofs.common.add_class.Goals as goal
 
 pub returns-in-None : goal.returns-in-None

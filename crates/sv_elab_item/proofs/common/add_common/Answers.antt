@@ -6,8 +6,8 @@ use Rattle.sv_tree.specs.UnitView.{item}
 use Rattle.sv_names.specs.Items.{nothing, common_parts}
 use Rattle.sv_names.specs.Views.{around_in}
 use Rattle.sv_elab_parts.specs.Adding.{Adding}
-use Rattle.sv_elab_item.specs.Parts.{routine_at}
-use Rattle.sv_elab_item.proofs.CommonLaws.{nothing_added}
+use Rattle.sv_elab_plain.specs.Parts.{routine_at}
+use Rattle.sv_elab_plain.proofs.CommonLaws.{nothing_added}
 use Rattle.sv_elab_item.proofs.ItemLaws.{other_common}
 use Rattle.sv_elab_item.proofs.common.add_common.Goals as goal
 

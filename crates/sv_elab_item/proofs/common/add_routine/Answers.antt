@@ -8,8 +8,8 @@ use Rattle.sv_names.specs.Items.{subroutine_made}
 use Rattle.sv_names.specs.Subroutines.{MadeSubroutine, made_subroutine, nothing_before}
 use Rattle.sv_names.specs.Views.{around_in}
 use Rattle.sv_elab_parts.specs.Adding.{Adds}
-use Rattle.sv_elab_item.proofs.CheckedLaws.{good_given, fails_again}
-use Rattle.sv_elab_item.proofs.CommonLaws.{made_path, subroutine_added}
+use Rattle.sv_elab_plain.proofs.CheckedLaws.{good_given, fails_again}
+use Rattle.sv_elab_plain.proofs.CommonLaws.{made_path, subroutine_added}
 use Rattle.sv_elab_item.proofs.common.add_routine.Goals as goal
 
 pub returns-in_ok-add_subroutine-in-Ok : goal.returns-in_ok-add_subroutine-in-Ok

@@ -8,7 +8,7 @@ use Rattle.sv_names.specs.Views.{around_in}
 use Rattle.sv_elab_parts.specs.Adding.{AddingAll, behind}
 use Rattle.sv_elab_walk.specs.Insts.{walked_in}
 use Rattle.sv_elab_item.specs.Given.{walked_given}
-use Rattle.sv_elab_item.proofs.EachLaws.{values_all}
+use Rattle.sv_elab_plain.proofs.EachLaws.{values_all}
 use Rattle.sv_elab_item.proofs.GivenListLaws.{steps_next}
 use Rattle.sv_elab_item.proofs.given.add_all_walked.Goals as goal
 

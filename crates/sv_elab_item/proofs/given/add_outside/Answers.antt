@@ -9,9 +9,9 @@ use Rattle.sv_names.specs.Joined.{joined}
 use Rattle.sv_names.specs.Views.{around_in}
 use Rattle.sv_elab_parts.specs.Adding.{AddingAll, behind}
 use Rattle.sv_elab_scope.specs.Rows.{group_in}
-use Rattle.sv_elab_item.specs.Files.{file_scope}
+use Rattle.sv_elab_plain.specs.Files.{file_scope}
 use Rattle.sv_elab_item.specs.Given.{described, all_described, outside_given}
-use Rattle.sv_elab_item.proofs.EachLaws.{part_next, parts_all}
+use Rattle.sv_elab_plain.proofs.EachLaws.{part_next, parts_all}
 use Rattle.sv_elab_item.proofs.GivenListLaws.{described_cons, files_first}
 use Rattle.sv_elab_item.proofs.given.add_outside.Goals as goal
 

@@ -5,7 +5,7 @@ use Rattle.sv_tree.specs.declared.statement.Declarator.{Declarator}
 use Rattle.sv_names.specs.Views.{around_in}
 use Rattle.sv_elab_parts.specs.Adding.{Adding}
 use Rattle.sv_elab_walk.specs.Insts.{inst_in}
-use Rattle.sv_elab_item.specs.Parts.{only_objects, variables_of}
+use Rattle.sv_elab_plain.specs.Parts.{only_objects, variables_of}
 use Rattle.sv_elab_item.proofs.GivenLaws.{objects_given}
 use Rattle.sv_elab_item.proofs.items.add_decl.Goals as goal
 

@@ -11,7 +11,7 @@ use Rattle.sv_names.specs.Items.{nothing, instances_stand}
 use Rattle.sv_names.specs.Views.{around_in}
 use Rattle.sv_elab_unit.specs.Definitions.{names_in}
 use Rattle.sv_elab_walk.specs.Insts.{inst_in}
-use Rattle.sv_elab_item.proofs.CommonLaws.{nothing_added}
+use Rattle.sv_elab_plain.proofs.CommonLaws.{nothing_added}
 use Rattle.sv_elab_item.proofs.items.add_instances.Goals as goal
 
 pub returns : goal.returns

@@ -9,8 +9,8 @@ use Rattle.sv_names.specs.Types.{Path}
 use Rattle.sv_names.specs.Views.{around_in}
 use Rattle.sv_elab_parts.specs.Adding.{Adding}
 use Rattle.sv_elab_walk.specs.Insts.{inst_in}
-use Rattle.sv_elab_item.specs.Parts.{default_stands}
-use Rattle.sv_elab_item.proofs.CommonLaws.{nothing_added}
+use Rattle.sv_elab_plain.specs.Parts.{default_stands}
+use Rattle.sv_elab_plain.proofs.CommonLaws.{nothing_added}
 use Rattle.sv_elab_item.proofs.ItemLaws.{other_item}
 use Rattle.sv_elab_item.proofs.items.add_item.Goals as goal
 

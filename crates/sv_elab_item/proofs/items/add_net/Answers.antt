@@ -5,7 +5,7 @@ use Rattle.sv_tree.specs.UnitView.{net_item}
 use Rattle.sv_names.specs.Views.{around_in}
 use Rattle.sv_elab_parts.specs.Adding.{Adding}
 use Rattle.sv_elab_walk.specs.Insts.{inst_in}
-use Rattle.sv_elab_item.specs.Parts.{nets_of, net_processes, objects_and_processes}
+use Rattle.sv_elab_plain.specs.Parts.{nets_of, net_processes, objects_and_processes}
 use Rattle.sv_elab_item.proofs.GivenLaws.{both_given}
 use Rattle.sv_elab_item.proofs.items.add_net.Goals as goal
 

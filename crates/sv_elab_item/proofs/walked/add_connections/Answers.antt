@@ -9,7 +9,7 @@ use Rattle.sv_elab_parts.specs.Adding.{Adding}
 use Rattle.sv_elab_unit.specs.Definitions.{names_in}
 use Rattle.sv_elab_unit.specs.Ports.{port_in}
 use Rattle.sv_elab_walk.specs.Insts.{inst_in}
-use Rattle.sv_elab_item.specs.Parts.{only_processes, link_processes}
+use Rattle.sv_elab_plain.specs.Parts.{only_processes, link_processes}
 use Rattle.sv_elab_item.proofs.GivenLaws.{links_are, processes_given}
 use Rattle.sv_elab_item.proofs.walked.add_connections.Goals as goal
 

@@ -4,7 +4,7 @@ use Rattle.sv_names.specs.Views.{around_in}
 use Rattle.sv_elab_parts.specs.Adding.{Adding}
 use Rattle.sv_elab_unit.specs.Ports.{port_in}
 use Rattle.sv_elab_walk.specs.Insts.{inst_in}
-use Rattle.sv_elab_item.specs.Parts.{only_objects, ports_in}
+use Rattle.sv_elab_plain.specs.Parts.{only_objects, ports_in}
 use Rattle.sv_elab_item.proofs.GivenLaws.{objects_given}
 use Rattle.sv_elab_item.proofs.walked.add_inst_ports.Goals as goal
 

@@ -7,8 +7,8 @@ use Rattle.sv_elab_parts.specs.Adding.{Adding}
 use Rattle.sv_elab_walk.specs.declared.instance.Inst.{Inst}
 use Rattle.sv_elab_walk.specs.declared.instance.Walked.{Walked}
 use Rattle.sv_elab_walk.specs.Insts.{inst_in, walked_in}
-use Rattle.sv_elab_item.specs.Parts.{connected}
-use Rattle.sv_elab_item.specs.Steps.{step_given}
+use Rattle.sv_elab_plain.specs.Parts.{connected}
+use Rattle.sv_elab_plain.specs.Steps.{step_given}
 use Rattle.sv_elab_item.proofs.walked.add_step.Goals as goal
 
 pub returns-in-Enter : goal.returns-in-Enter

@@ -9,7 +9,7 @@ use Rattle.sv_names.specs.Views.{around_in}
 use Rattle.sv_elab_parts.specs.Adding.{Adding}
 use Rattle.sv_elab_scope.specs.Rows.{group_in}
 use Rattle.sv_elab_walk.specs.Insts.{inst_in, walked_in}
-use Rattle.sv_elab_item.specs.Steps.{step_given}
+use Rattle.sv_elab_plain.specs.Steps.{step_given}
 use Rattle.sv_elab_item.proofs.StepLaws.{step_in}
 use Rattle.sv_elab_item.proofs.walked.add_walked.Goals as goal
 

@@ -9,9 +9,9 @@ use Rattle.sv_names.specs.Code.{Code, with_objects}
 use Rattle.sv_names.specs.Emits.{Emits}
 use Rattle.sv_names.specs.Subroutines.{routine_at}
 use Rattle.sv_names.specs.Views.{around_in}
-use Rattle.sv_elab_routine.specs.Befores.{before_in}
+use Rattle.sv_elab_before.specs.Befores.{before_in}
 use Rattle.sv_elab_routine.specs.Bodies.{body_code}
-use Rattle.sv_elab_routine.specs.Objects.{own_objects}
+use Rattle.sv_elab_before.specs.Objects.{own_objects}
 use Rattle.sv_elab_routine.proofs.bodies.routine_inside.Goals as goal
 
 pub returns : goal.returns

@@ -9,7 +9,7 @@ use Rattle.sv_names.specs.Code.{Code, Numbered}
 use Rattle.sv_names.specs.Emits.{Emits}
 use Rattle.sv_names.specs.Subroutines.{No_super, constructor_before, routine_at}
 use Rattle.sv_names.specs.Views.{around_in}
-use Rattle.sv_elab_routine.specs.Befores.{construction}
+use Rattle.sv_elab_before.specs.Befores.{construction}
 use Rattle.sv_elab_routine.proofs.constructors.implied_within.Goals as goal
 
 pub returns : goal.returns

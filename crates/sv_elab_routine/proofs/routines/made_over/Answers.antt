@@ -7,7 +7,7 @@ use Rattle.sv_names.specs.Code.{Numbered}
 use Rattle.sv_names.specs.Emits.{Emits}
 use Rattle.sv_names.specs.Views.{around_in}
 use Rattle.sv_elab_declare.specs.Added.{class_of, method_of}
-use Rattle.sv_elab_routine.specs.Befores.{before_in}
+use Rattle.sv_elab_before.specs.Befores.{before_in}
 use Rattle.sv_elab_routine.proofs.MadeLaws.{made_guarded}
 use Rattle.sv_elab_routine.proofs.routines.made_over.Goals as goal
 

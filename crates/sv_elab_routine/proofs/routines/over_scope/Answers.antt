@@ -8,7 +8,7 @@ use Rattle.sv_names.specs.Emits.{Emits}
 use Rattle.sv_names.specs.Views.{around_in}
 use Rattle.sv_elab_declare.specs.Added.{class_of, method_of}
 use Rattle.sv_elab_routine.specs.declared.bodies.Manner.{Manner}
-use Rattle.sv_elab_routine.specs.Befores.{before_in}
+use Rattle.sv_elab_before.specs.Befores.{before_in}
 use Rattle.sv_elab_routine.specs.Bodies.{routine_within}
 use Rattle.sv_elab_routine.proofs.MadeLaws.{made_within}
 use Rattle.sv_elab_routine.proofs.routines.over_scope.Goals as goal

@@ -11,7 +11,7 @@ use Rattle.sv_names.specs.Scopes.{callee_within}
 use Rattle.sv_names.specs.Subroutines.{made_over}
 use Rattle.sv_names.specs.Views.{around_in}
 use Rattle.sv_elab_declare.specs.Added.{class_of, method_of}
-use Rattle.sv_elab_routine.specs.Befores.{before_in}
+use Rattle.sv_elab_before.specs.Befores.{before_in}
 use Rattle.sv_elab_routine.specs.Made.{routine_of}
 use Rattle.sv_elab_routine.proofs.routines.subroutine_made.Goals as goal
 

@@ -1,0 +1,4 @@
+pub mod ObjectLaws
+pub mod SuperLaws
+pub mod PropertyLaws
+pub mod StandLaws

@@ -1,0 +1,9 @@
+pub mod BlockLaws
+pub mod CheckedLaws
+pub mod CommonLaws
+pub mod DefaultLaws
+pub mod EachLaws
+pub mod FileLaws
+pub mod ObjectLaws
+pub mod PathLaws
+pub mod ProcessLaws

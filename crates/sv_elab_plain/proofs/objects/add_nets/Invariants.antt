@@ -1,0 +1,16 @@
+use Rattle.std.proofs.Common.{◌≡◌, List, drop, map}
+use Rattle.sv_flat.specs.declared.object.Object.{Object}
+use Rattle.sv_tree.specs.UnitView.{net_item}
+use Rattle.sv_names.specs.declared.checked.Checked.{Checked}
+use Rattle.sv_names.specs.Groups.{Group}
+use Rattle.sv_names.specs.Joined.{joined}
+use Rattle.sv_names.specs.Views.{around_in}
+use Rattle.sv_elab_plain.specs.Adding.{AddsObjects}
+use Rattle.sv_elab_plain.specs.Parts.{nets_of}
+use Rattle.sv_elab_plain.proofs.objects.add_nets.Given as goal
+
+abbrev pub invariant-loop-one : goal.invariant-loop-one
+invariant-loop-one l =
+    (g : Group) → g.scope ≡ l.scope
+    → (c : Checked (List Object)) × AddsObjects l.fn.objects l.objects l.done c
+    × (joined c (nets_of (around_in l.around) g (map net_item (drop l.one-index l.all))) ≡ nets_of (around_in l.around) g (map net_item l.all))

@@ -1,0 +1,4 @@
+pub mod Adding
+pub mod Parts
+pub mod Files
+pub mod Steps

@@ -1,0 +1,13 @@
+use Rattle.std.proofs.Common.{◌≡◌, ◌++◌, map, length}
+use Rattle.std.specs.Prelude.{flat_map}
+use Rattle.sv_names.specs.Sources.{initialized}
+use Rattle.sv_elab_walk.specs.Insts.{walked_in}
+use Rattle.sv_elab_writers.specs.Views.{initialized_in}
+use Rattle.sv_elab_whole.proofs.meeting.all_initialized.Given as goal
+
+abbrev pub invariant-loop-left : goal.invariant-loop-left
+invariant-loop-left l =
+    map initialized_in l.list ++ flat_map initialized (map walked_in l.left) ≡ flat_map initialized (map walked_in l.walked)
+
+abbrev pub decreases-loop-left : goal.decreases-loop-left
+decreases-loop-left l = length l.left

@@ -1,0 +1,4 @@
+pub mod Scales
+pub mod Walks
+pub mod Collected
+pub mod Numbering
