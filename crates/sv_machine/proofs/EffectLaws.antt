@@ -32,7 +32,7 @@ use Rattle.sv_sound.proofs.Weights.{there, map_at, map_set_same}
 use Rattle.sv_sound.proofs.Running.{running_known, runs_calm}
 use Rattle.sv_fork.specs.Tree.{Member, ended_in, is_over_in, join_of, member_of, member_test}
 use Rattle.sv_fork.specs.Tree as tree
-use Rattle.sv_process.specs.Frames.{todos_of}
+use Rattle.sv_stack.specs.Frames.{todos_of}
 use Rattle.sv_sense.specs.declared.waiter.Waiter.{Waiter}
 use Rattle.sv_sense.specs.Sensed.{Covers}
 use Rattle.sv_machine.specs.declared.machine.Machine.{Machine}

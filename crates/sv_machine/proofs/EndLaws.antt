@@ -15,8 +15,8 @@ use Rattle.sv_built.specs.Waits.{watched_by}
 use Rattle.sv_sound.proofs.Weights.{got, there, within}
 use Rattle.sv_sound.proofs.Occurs.{end_initial, end_always, end_always_ff, end_always_comb, end_assign, end_port}
 use Rattle.sv_sound.proofs.Running.{ended_is}
-use Rattle.sv_process.specs.declared.frames.Frame.{Frame}
-use Rattle.sv_process.specs.Frames.{todos_of}
+use Rattle.sv_stack.specs.declared.frames.Frame.{Frame}
+use Rattle.sv_stack.specs.Frames.{todos_of}
 use Rattle.sv_machine.specs.declared.machine.Machine.{Machine}
 use Rattle.sv_machine.specs.Machine.{Tracks, StandsFor}
 use Rattle.sv_machine.specs.Steps.{IsOver, BeginsAgain, WaitsAgain, EndsAs}

@@ -9,7 +9,7 @@ use Rattle.sv_flat.specs.Config.{Config, numbered_from, process_at}
 use Rattle.sv_fork.specs.Tree.{Member, member_of, side_of}
 use Rattle.sv_sound.specs.Sound.{IsSound, weight_of_all}
 use Rattle.sv_sound.proofs.Weights.{map_at}
-use Rattle.sv_process.specs.Frames.{todos_of}
+use Rattle.sv_stack.specs.Frames.{todos_of}
 use Rattle.sv_machine.specs.declared.machine.Machine.{Machine}
 use Rattle.sv_machine.specs.Waits.{awaited_at, awaited_by}
 use Rattle.sv_machine.specs.Machine.{Picture, of_machine, of_config, rest_of, was_taken, made_of}

@@ -32,8 +32,8 @@ use Rattle.sv_sound.proofs.Related.{get_before, get_none}
 use Rattle.sv_sound.proofs.Forks.{all_started, child_sound, suspends_is}
 use Rattle.sv_fork.specs.Tree.{Join, Member, awaiting_in, changed_in, child_in, is_living_child, is_over_in, living_children_in, member_of, member_test, side_of, started_in}
 use Rattle.sv_fork.proofs.ConfigLaws.{all_live_on, child_lives, children_are, started_is}
-use Rattle.sv_process.specs.Effects.{spawn_at, spawn_of}
-use Rattle.sv_process.specs.Frames.{todos_of}
+use Rattle.sv_stack.specs.Effects.{spawn_at, spawn_of}
+use Rattle.sv_stack.specs.Frames.{todos_of}
 use Rattle.sv_machine.specs.declared.machine.Machine.{Machine}
 use Rattle.sv_machine.specs.Waits.{awaited_at, awaited_by}
 use Rattle.sv_machine.specs.Machine.{Picture, of_machine, of_config, IsAlive, Tracks, StandsFor, IsAt, Makes, rest_of, was_taken, made_of}

@@ -51,8 +51,8 @@ use Rattle.sv_sound.proofs.Changes.{found_at}
 use Rattle.sv_sound.proofs.Running.{running_known, ended_is}
 use Rattle.sv_fork.specs.Tree.{Member, is_awaited, is_awaited_by, member_of, parent_of}
 use Rattle.sv_sense.specs.declared.waiter.Waiter.{Waiter}
-use Rattle.sv_process.specs.Effects.{effect_in}
-use Rattle.sv_process.specs.Effects as effects
+use Rattle.sv_stack.specs.Effects.{effect_in}
+use Rattle.sv_stack.specs.Effects as effects
 use Rattle.sv_machine.specs.declared.machine.Machine.{Machine}
 use Rattle.sv_machine.specs.declared.machine.Kept.{Kept}
 use Rattle.sv_machine.specs.declared.line.Line.{Line}

@@ -11,8 +11,8 @@ use Rattle.sv_flat.specs.Effects.Ends.{is_ended}
 use Rattle.sv_flat.specs.Opening.{opening_process}
 use Rattle.sv_sound.specs.Sound.{pending_count}
 use Rattle.sv_fork.specs.Tree.{Member, join_of, member_of}
-use Rattle.sv_process.specs.declared.frames.Frame.TheVariants.{Rest}
-use Rattle.sv_process.specs.Frames.{todos_of}
+use Rattle.sv_stack.specs.declared.frames.Frame.TheVariants.{Rest}
+use Rattle.sv_stack.specs.Frames.{todos_of}
 use Rattle.sv_machine.specs.Machine.{rest_of, was_taken, made_of}
 use Rattle.sv_machine.specs.Waits.{Awaited, awaited, awaited_at, awaited_by}
 use Rattle.sv_machine.specs.Opening.{first_member, starter_count}

@@ -32,13 +32,13 @@ use Rattle.sv_sound.proofs.Running.{state_sound, remain_sound, runs_calm}
 use Rattle.sv_sound.proofs.EffectSound.{all_sound}
 use Rattle.sv_sound.proofs.MicroPlain.{micro_plain}
 use Rattle.sv_assign.specs.Seen.{view_in}
-use Rattle.sv_process.specs.declared.effect.Effect.{Effect as Own_effect}
-use Rattle.sv_process.specs.declared.frames.Frame.{Frame}
+use Rattle.sv_stack.specs.declared.effect.Effect.{Effect as Own_effect}
+use Rattle.sv_stack.specs.declared.frames.Frame.{Frame}
 use Rattle.sv_process.specs.declared.steps.Stepped.{Stepped}
-use Rattle.sv_process.specs.declared.went.Went.{Went}
-use Rattle.sv_process.specs.declared.went.Went.TheVariants as went
-use Rattle.sv_process.specs.Effects.{effects_in, effects_of, is_held}
-use Rattle.sv_process.specs.Frames.{todos_of, SeesAll}
+use Rattle.sv_stack.specs.declared.went.Went.{Went}
+use Rattle.sv_stack.specs.declared.went.Went.TheVariants as went
+use Rattle.sv_stack.specs.Effects.{effects_in, effects_of, is_held}
+use Rattle.sv_stack.specs.Frames.{todos_of, SeesAll}
 use Rattle.sv_machine.specs.Steps.{effects_done}
 use Rattle.sv_sense.specs.Sensed.{Covers}
 use Rattle.sv_machine.specs.declared.machine.Machine.{Machine}

@@ -17,7 +17,7 @@ use Rattle.sv_flat.specs.Effects.Scheduling.{children_from, spawned, started}
 use Rattle.sv_fork.specs.Tree.{awaiting_in, ended_in, is_living_child, started_in}
 use Rattle.sv_arena.specs.Made.{with_process}
 use Rattle.sv_sense.specs.Sensed.{Covers}
-use Rattle.sv_process.specs.Frames.{todos_of}
+use Rattle.sv_stack.specs.Frames.{todos_of}
 use Rattle.sv_sound.proofs.Descendants.{MayEnd}
 use Rattle.sv_machine.specs.declared.machine.Machine.{Machine}
 use Rattle.sv_machine.specs.Machine.{StandsFor, Tracks}

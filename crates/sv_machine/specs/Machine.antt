@@ -17,7 +17,7 @@ use Rattle.sv_built.specs.Positions.{stmt_at}
 use Rattle.sv_sound.specs.Sound.{IsSound, pending_count}
 use Rattle.sv_fork.specs.Tree.{Member, member_of, is_over_in}
 use Rattle.sv_sense.specs.Sensed.{Covers}
-use Rattle.sv_process.specs.Frames.{todos_of}
+use Rattle.sv_stack.specs.Frames.{todos_of}
 use Rattle.sv_machine.specs.declared.machine.Machine.{Machine}
 use Rattle.sv_machine.specs.declared.machine.Kept.{Kept}
 use Rattle.sv_machine.specs.declared.line.Line.{Line}

@@ -23,11 +23,11 @@ use Rattle.sv_arena.specs.Made.{entered}
 use Rattle.sv_sense.specs.declared.waiter.Waiter.{Waiter}
 use Rattle.sv_sense.specs.Sensed.{Covers}
 use Rattle.sv_sound.specs.After.{changed_to, varied_to, store_after}
-use Rattle.sv_process.specs.Frames.{todos_of}
-use Rattle.sv_process.specs.Effects.{effects_in}
-use Rattle.sv_process.specs.declared.effect.Effect.{Effect as Own_effect}
-use Rattle.sv_process.specs.declared.went.Went.{Went}
-use Rattle.sv_process.specs.declared.went.Went.TheVariants as went
+use Rattle.sv_stack.specs.Frames.{todos_of}
+use Rattle.sv_stack.specs.Effects.{effects_in}
+use Rattle.sv_stack.specs.declared.effect.Effect.{Effect as Own_effect}
+use Rattle.sv_stack.specs.declared.went.Went.{Went}
+use Rattle.sv_stack.specs.declared.went.Went.TheVariants as went
 use Rattle.sv_built.specs.Entered.{types_at}
 use Rattle.sv_machine.specs.declared.machine.Machine.{Machine}
 

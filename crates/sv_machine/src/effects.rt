@@ -7,7 +7,7 @@ ghost use Rattle.sv_flat.specs.Config.{first_process};
 ghost use Rattle.sv_flat.specs.Effects.{occurred};
 ghost use Rattle.sv_built.specs.Built.{IsBuilt};
 ghost use Rattle.sv_sound.specs.Sound.{IsPlainEffect, IsPlainJob};
-ghost use Rattle.sv_process.specs.Effects.{effect_in};
+ghost use Rattle.sv_stack.specs.Effects.{effect_in};
 ghost use Rattle.sv_sense.specs.Sensed.{Covers};
 ghost use Rattle.sv_fork.specs.Tree.{is_awaited};
 ghost use Rattle.sv_machine.specs.Machine.{IsAt, Makes, Does, SameMoment};
@@ -23,7 +23,7 @@ use crate::writes::assign;
 use sv_arena::Name;
 use sv_built::{Design, Wait};
 use sv_flat::ProcessKind;
-use sv_process::Effect;
+use sv_stack::Effect;
 use sv_value::{Due, Job, NoMemory, Place, ProcessId, RunFault, Side};
 
 /// An effect of the running process, whose statement stands at a place. What is printed comes behind the lines.

@@ -7,7 +7,7 @@ ghost use Rattle.sv_flat.specs.Effects.Scheduling.{awaiting};
 ghost use Rattle.sv_built.specs.Built.{IsBuilt};
 ghost use Rattle.sv_built.specs.Positions.{stmt_at};
 ghost use Rattle.sv_fork.specs.Tree.{is_awaited, is_living_child};
-ghost use Rattle.sv_process.specs.Effects.{spawn_at};
+ghost use Rattle.sv_stack.specs.Effects.{spawn_at};
 ghost use Rattle.sv_sense.specs.Sensed.{Covers};
 ghost use Rattle.sv_machine.specs.Machine.{IsAt, Makes, SameMoment};
 ghost use Rattle.sv_machine.specs.Forks.{ended_forked, forked_in, joined_in, joining_in, spawned_in, AllEnd, ChildrenOf, EndsOne, HasMore, MayAllEnd, Starts, StartsOne};
@@ -18,7 +18,7 @@ use sv_arena::Name;
 use sv_built::{Design, Position};
 use sv_flat::{Form, JoinKind};
 use sv_fork::StartFault;
-use sv_process::Frames;
+use sv_stack::Frames;
 use sv_value::{FaultKind, NoMemory, Place, ProcessId, RoutineId, RunFault};
 
 // ---- forks

@@ -3,9 +3,9 @@ use std::alloc::Global;
 use sv_arena::Activations;
 use sv_built::Position;
 use sv_fork::Tree;
-use sv_process::{Frames, Spare};
 use sv_sched::{Regions, Wheel};
 use sv_sense::Sense;
+use sv_stack::{Frames, Spare};
 use sv_store::Store;
 use sv_value::{Phase, Place, ProcessId, RunFault, Side};
 

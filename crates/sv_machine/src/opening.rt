@@ -10,7 +10,7 @@ ghost use Rattle.sv_flat.specs.Eval.{value_of};
 ghost use Rattle.sv_flat.specs.Targets as targets;
 ghost use Rattle.sv_built.specs.Built.{IsBuilt, IsBuiltInitial};
 ghost use Rattle.sv_assign.specs.Seen.{view_in, world_in};
-ghost use Rattle.sv_process.specs.declared.frames.Frame.TheVariants.{Rest};
+ghost use Rattle.sv_stack.specs.declared.frames.Frame.TheVariants.{Rest};
 ghost use Rattle.sv_machine.specs.Machine.{StandsFor};
 ghost use Rattle.sv_machine.specs.Opening as parts;
 
@@ -24,9 +24,9 @@ use sv_built::Design;
 use sv_eval::{Stopped, value};
 use sv_flat::{Base, DataType, Expr, Initial, Lvalue, Object, Process, ProcessKind};
 use sv_fork::Tree;
-use sv_process::{Frames, Spare};
 use sv_sched::{Regions, Wheel};
 use sv_sense::Sense;
+use sv_stack::{Frames, Spare};
 use sv_store::Store;
 use sv_value::{NoMemory, ObjId, Phase, Place, ProcessId, Side, Val};
 

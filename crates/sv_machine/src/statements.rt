@@ -12,8 +12,8 @@ ghost use Rattle.sv_built.specs.Built.{IsBuilt};
 ghost use Rattle.sv_sound.specs.Sound.{IsPlainEffect};
 ghost use Rattle.sv_assign.specs.Seen.{view_in};
 ghost use Rattle.sv_flat.specs.declared.design.Parts.{Parts};
-ghost use Rattle.sv_process.specs.Effects.{effects_in, effects_of, is_held};
-ghost use Rattle.sv_process.specs.Frames.{SeesAll, todos_of};
+ghost use Rattle.sv_stack.specs.Effects.{effects_in, effects_of, is_held};
+ghost use Rattle.sv_stack.specs.Frames.{SeesAll, todos_of};
 ghost use Rattle.sv_machine.specs.Steps.{effects_done};
 ghost use Rattle.sv_machine.specs.Machine.{IsAt, Makes, AddsLines, Does, SameMoment};
 
@@ -24,7 +24,8 @@ use std::alloc::Global;
 use sv_arena::{Activations, Name};
 use sv_assign::Seen;
 use sv_built::Design;
-use sv_process::{Effect, Frames, Spare, Stepped, Went, step};
+use sv_process::{Stepped, step};
+use sv_stack::{Effect, Frames, Spare, Went};
 use sv_store::Store;
 use sv_value::{NoMemory, Place, ProcessId};
 

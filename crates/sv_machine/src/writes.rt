@@ -21,9 +21,9 @@ use sv_arena::Name;
 use sv_assign::{Before, Change, Spot, overwrite};
 use sv_built::Design;
 use sv_fork::Tree;
-use sv_process::Spare;
 use sv_sched::Regions;
 use sv_sense::Sense;
+use sv_stack::Spare;
 use sv_value::{Job, NoMemory, ObjectTarget, Range, Seq, Update, Val};
 
 /// Lets those go on whom a change wakes, by number, each of whom sees it in its own scope.

@@ -19,11 +19,11 @@ use Rattle.sv_assign.specs.declared.spot.Spot.{Spot as Own_spot}
 use Rattle.sv_assign.specs.Places.{spot_in, spots_in}
 use Rattle.sv_built.specs.declared.position.Position.{Position}
 use Rattle.sv_built.specs.Positions.{stmt_at}
-use Rattle.sv_process.specs.declared.effect.Effect.{Effect as Own_effect}
-use Rattle.sv_process.specs.declared.effect.Effect.TheVariants as effect
-use Rattle.sv_process.specs.declared.frames.Frame.{Frame}
-use Rattle.sv_process.specs.Frames.{put_of, put_at}
-use Rattle.sv_process.specs.Effects.{effect_in, effects_in, Leaves}
+use Rattle.sv_stack.specs.declared.effect.Effect.{Effect as Own_effect}
+use Rattle.sv_stack.specs.declared.effect.Effect.TheVariants as effect
+use Rattle.sv_stack.specs.declared.frames.Frame.{Frame}
+use Rattle.sv_stack.specs.Frames.{put_of, put_at}
+use Rattle.sv_stack.specs.Effects.{effect_in, effects_in, Leaves}
 use Rattle.sv_process.specs.Parts.{writes}
 
 -- ---- writes

@@ -13,10 +13,10 @@ use Rattle.sv_built.specs.declared.entered.Entered.TheVariants as entered
 use Rattle.sv_built.specs.declared.position.Position.{Position}
 use Rattle.sv_built.specs.Entered.{types_at, types_of_block, types_of_form}
 use Rattle.sv_built.specs.Positions.{stmt_at}
-use Rattle.sv_process.specs.declared.effect.Effect.{Effect as Own_effect}
-use Rattle.sv_process.specs.declared.effect.Effect.TheVariants as effect
-use Rattle.sv_process.specs.declared.frames.Frame.{Frame}
-use Rattle.sv_process.specs.Effects.{effect_in, Leaves}
+use Rattle.sv_stack.specs.declared.effect.Effect.{Effect as Own_effect}
+use Rattle.sv_stack.specs.declared.effect.Effect.TheVariants as effect
+use Rattle.sv_stack.specs.declared.frames.Frame.{Frame}
+use Rattle.sv_stack.specs.Effects.{effect_in, Leaves}
 
 -- a block that declares nothing
 pub without_variables : (d : Parts) (fs : List Frame) (es : List Own_effect) (ls : List Declared) (body : RoutineId) (outer : Option Name) (next : Name) (rest : List Todo)

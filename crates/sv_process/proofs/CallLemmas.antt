@@ -22,11 +22,11 @@ use Rattle.sv_assign.specs.declared.spot.Spot.{Spot as Own_spot}
 use Rattle.sv_assign.specs.Places.{spot_in}
 use Rattle.sv_built.specs.declared.entered.Entered.TheVariants as entered
 use Rattle.sv_built.specs.Entered.{types_of_call}
-use Rattle.sv_process.specs.declared.effect.Effect.{Effect as Own_effect}
-use Rattle.sv_process.specs.declared.effect.Effect.TheVariants as effect
-use Rattle.sv_process.specs.declared.frames.Frame.{Frame}
-use Rattle.sv_process.specs.Calls.{left_after, return_of}
-use Rattle.sv_process.specs.Effects.{Leaves, behind, effects_in}
+use Rattle.sv_stack.specs.declared.effect.Effect.{Effect as Own_effect}
+use Rattle.sv_stack.specs.declared.effect.Effect.TheVariants as effect
+use Rattle.sv_stack.specs.declared.frames.Frame.{Frame}
+use Rattle.sv_stack.specs.Calls.{left_after, return_of}
+use Rattle.sv_stack.specs.Effects.{Leaves, behind, effects_in}
 use Rattle.sv_process.proofs.AssignLemmas.{one_more}
 
 -- ---- effects behind others

@@ -18,9 +18,9 @@ use Rattle.sv_flat.specs.Process.{Todo, optional_body_in}
 use Rattle.sv_flat.specs.Statements.Matching.{matches, any_label, chosen_item}
 use Rattle.sv_flat.specs.Statements.Shared.{Effects, goes_on, value_in, from_result, fails}
 use Rattle.sv_eval.proofs.TextLaws.{same_is}
-use Rattle.sv_process.specs.declared.effect.Effect.{Effect as Own_effect}
-use Rattle.sv_process.specs.declared.frames.Frame.{Frame}
-use Rattle.sv_process.specs.Effects.{Leaves}
+use Rattle.sv_stack.specs.declared.effect.Effect.{Effect as Own_effect}
+use Rattle.sv_stack.specs.declared.frames.Frame.{Frame}
+use Rattle.sv_stack.specs.Effects.{Leaves}
 
 -- ---- labels
 

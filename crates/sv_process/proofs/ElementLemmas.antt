@@ -17,11 +17,11 @@ use Rattle.sv_flat.specs.Statements.Shared.{Effects, goes_on}
 use Rattle.sv_built.specs.declared.position.Position.{Position}
 use Rattle.sv_built.specs.Positions.{stmt_at}
 use Rattle.sv_assign.specs.declared.spot.Spot.TheVariants as spot
-use Rattle.sv_process.specs.declared.effect.Effect.{Effect as Own_effect}
-use Rattle.sv_process.specs.declared.effect.Effect.TheVariants as effect
-use Rattle.sv_process.specs.declared.frames.Frame.{Frame}
-use Rattle.sv_process.specs.Frames.{elements_at}
-use Rattle.sv_process.specs.Effects.{effect_in, effects_in, Leaves}
+use Rattle.sv_stack.specs.declared.effect.Effect.{Effect as Own_effect}
+use Rattle.sv_stack.specs.declared.effect.Effect.TheVariants as effect
+use Rattle.sv_stack.specs.declared.frames.Frame.{Frame}
+use Rattle.sv_stack.specs.Frames.{elements_at}
+use Rattle.sv_stack.specs.Effects.{effect_in, effects_in, Leaves}
 
 -- what a walk does, by whether an element is left
 turn_by : (d : Parts) (s : Stmt) (b : Bounds) (body : RoutineId) (n : ℕ) (name : Name) (rest : List Todo) (before : Effects) (t : Bool) → nat_lt n (element_count b) ≡ t

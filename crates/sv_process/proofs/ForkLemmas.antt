@@ -15,12 +15,12 @@ use Rattle.sv_built.specs.declared.entered.Entered.TheVariants as entered
 use Rattle.sv_built.specs.declared.position.Position.{Position}
 use Rattle.sv_built.specs.Entered.{types_at, types_of_block, types_of_form}
 use Rattle.sv_built.specs.Positions.{stmt_at}
-use Rattle.sv_process.specs.declared.effect.Effect.{Effect as Own_effect}
-use Rattle.sv_process.specs.declared.effect.Effect.TheVariants as effect
-use Rattle.sv_process.specs.declared.frames.Frame.{Frame}
-use Rattle.sv_process.specs.declared.frames.Frame.TheVariants as frame
-use Rattle.sv_process.specs.Frames.{children_at, children_of, todos_of}
-use Rattle.sv_process.specs.Effects.{effect_in, effects_in, spawn_at, spawn_of, Leaves}
+use Rattle.sv_stack.specs.declared.effect.Effect.{Effect as Own_effect}
+use Rattle.sv_stack.specs.declared.effect.Effect.TheVariants as effect
+use Rattle.sv_stack.specs.declared.frames.Frame.{Frame}
+use Rattle.sv_stack.specs.declared.frames.Frame.TheVariants as frame
+use Rattle.sv_stack.specs.Frames.{children_at, children_of, todos_of}
+use Rattle.sv_stack.specs.Effects.{effect_in, effects_in, spawn_at, spawn_of, Leaves}
 use Rattle.sv_process.specs.Parts.{fork_run, fork_starts, site_at}
 
 -- the children that start

@@ -10,10 +10,10 @@ use Rattle.sv_flat.specs.declared.stmt.Form.TheVariants as form
 use Rattle.sv_flat.specs.State.{View, Name}
 use Rattle.sv_flat.specs.Process.{Todo}
 use Rattle.sv_eval.specs.declared.stopped.Stopped.{Stopped}
-use Rattle.sv_process.specs.declared.effect.Effect.{Effect as Own_effect}
-use Rattle.sv_process.specs.declared.frames.Frame.{Frame}
-use Rattle.sv_process.specs.Calls.{call_in, call_of_form}
-use Rattle.sv_process.specs.Effects.{Does}
+use Rattle.sv_stack.specs.declared.effect.Effect.{Effect as Own_effect}
+use Rattle.sv_stack.specs.declared.frames.Frame.{Frame}
+use Rattle.sv_stack.specs.Calls.{call_in, call_of_form}
+use Rattle.sv_stack.specs.Effects.{Does}
 use Rattle.sv_process.specs.Parts.{stmt_run}
 
 -- a statement by its form

@@ -15,10 +15,10 @@ use Rattle.sv_flat.specs.State.{Name}
 use Rattle.sv_flat.specs.Process.{Todo, optional_body_in, routine_of}
 use Rattle.sv_flat.specs.Statements.Jumps.{after_break, after_continue}
 use Rattle.sv_built.specs.Positions.{body_of, stmt_at}
-use Rattle.sv_process.specs.declared.frames.Frame.{Frame}
-use Rattle.sv_process.specs.declared.frames.Frame.TheVariants as frame
-use Rattle.sv_process.specs.Calls.{call_in, called_at, end_at, end_of_call, end_of_form, end_of_routine}
-use Rattle.sv_process.specs.Frames.{to_do, turn_at, turns_of, turns_at, elements_at, put_of, put_at, children_of, children_at, todos_in, todos_of, scope_in, is_more, is_turn, step_at, step_in}
+use Rattle.sv_stack.specs.declared.frames.Frame.{Frame}
+use Rattle.sv_stack.specs.declared.frames.Frame.TheVariants as frame
+use Rattle.sv_stack.specs.Calls.{call_in, called_at, end_at, end_of_call, end_of_form, end_of_routine}
+use Rattle.sv_stack.specs.Frames.{to_do, turn_at, turns_of, turns_at, elements_at, put_of, put_at, children_of, children_at, todos_in, todos_of, scope_in, is_more, is_turn, step_at, step_in}
 
 -- ---- the entry of a loop
 

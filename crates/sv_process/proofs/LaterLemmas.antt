@@ -19,12 +19,12 @@ use Rattle.sv_flat.specs.Targets.{spot_of, spots_of, target_values}
 use Rattle.sv_assign.specs.declared.spot.Spot.{Spot as Own_spot}
 use Rattle.sv_assign.specs.declared.spot.Spot.TheVariants as spot
 use Rattle.sv_assign.specs.Places.{spot_in, spots_in}
-use Rattle.sv_process.specs.declared.effect.Effect.{Effect as Own_effect}
-use Rattle.sv_process.specs.declared.effect.Effect.TheVariants as effect
-use Rattle.sv_process.specs.declared.frames.Frame.{Frame}
+use Rattle.sv_stack.specs.declared.effect.Effect.{Effect as Own_effect}
+use Rattle.sv_stack.specs.declared.effect.Effect.TheVariants as effect
+use Rattle.sv_stack.specs.declared.frames.Frame.{Frame}
 use Rattle.sv_eval.specs.declared.stopped.Stopped.{Stopped}
 use Rattle.sv_eval.specs.declared.stopped.Stopped.TheVariants.{Memory, Fault}
-use Rattle.sv_process.specs.Effects.{effect_in, Leaves, IsStopped}
+use Rattle.sv_stack.specs.Effects.{effect_in, Leaves, IsStopped}
 use Rattle.sv_process.specs.Parts.{updates, Reaches}
 
 -- ---- updates

@@ -16,13 +16,13 @@ use Rattle.sv_flat.specs.Process.{Todo, Output, Spot}
 use Rattle.sv_flat.specs.Statements.Routines.{copied_out, given_value, left, output, outputs_of, result_given, variable_value}
 use Rattle.sv_flat.specs.Statements.Shared.{Effects, fails, from_result, goes_on, result_write, written}
 use Rattle.sv_assign.specs.Places.{spots_in}
-use Rattle.sv_process.specs.declared.effect.Effect.{Effect as Own_effect}
-use Rattle.sv_process.specs.declared.effect.Effect.TheVariants as effect
+use Rattle.sv_stack.specs.declared.effect.Effect.{Effect as Own_effect}
+use Rattle.sv_stack.specs.declared.effect.Effect.TheVariants as effect
 use Rattle.sv_assign.specs.declared.spot.Spot.{Spot as Own_spot}
 use Rattle.sv_assign.specs.declared.spot.Spot.TheVariants as spot
-use Rattle.sv_process.specs.declared.frames.Frame.{Frame}
-use Rattle.sv_process.specs.Calls.{output_writes, return_of}
-use Rattle.sv_process.specs.Effects.{Leaves, behind, effects_in}
+use Rattle.sv_stack.specs.declared.frames.Frame.{Frame}
+use Rattle.sv_stack.specs.Calls.{output_writes, return_of}
+use Rattle.sv_stack.specs.Effects.{Leaves, behind, effects_in}
 use Rattle.sv_process.proofs.AssignLemmas.{one_more}
 use Rattle.sv_process.proofs.CallLemmas.{done, same, nothing_put, two_put, two_fault}
 

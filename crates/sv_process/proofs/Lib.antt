@@ -1,5 +1,3 @@
-pub mod EndLemmas
-pub mod FrameLemmas
 pub mod JumpLemmas
 pub mod LoopLemmas
 pub mod WaitLemmas
@@ -10,7 +8,6 @@ pub mod StepLemmas
 pub mod CaseLemmas
 pub mod CallLemmas
 pub mod LeaveLemmas
-pub mod DepthLemmas
 pub mod ReturnLemmas
 pub mod BlockLemmas
 pub mod ElementLemmas

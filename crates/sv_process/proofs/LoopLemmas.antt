@@ -17,10 +17,10 @@ use Rattle.sv_flat.specs.Statements.Loops.{repeated}
 use Rattle.sv_flat.specs.Statements.Shared.{goes_on, count_of}
 use Rattle.sv_built.specs.declared.position.Position.{Position}
 use Rattle.sv_built.specs.Positions.{stmt_at}
-use Rattle.sv_process.specs.declared.effect.Effect.{Effect as Own_effect}
-use Rattle.sv_process.specs.declared.frames.Frame.{Frame}
-use Rattle.sv_process.specs.Frames.{turns_of, turns_at, todos_of}
-use Rattle.sv_process.specs.Effects.{Leaves}
+use Rattle.sv_stack.specs.declared.effect.Effect.{Effect as Own_effect}
+use Rattle.sv_stack.specs.declared.frames.Frame.{Frame}
+use Rattle.sv_stack.specs.Frames.{turns_of, turns_at, todos_of}
+use Rattle.sv_stack.specs.Effects.{Leaves}
 
 -- no turn is left
 pub no_turn : (d : Parts) (at : Place) (n : ℕ) (body : RoutineId) (scope : Option Name) (ts : List Todo) (fs : List Frame) (es : List Own_effect) → n ≡ 0

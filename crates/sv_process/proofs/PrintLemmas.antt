@@ -20,10 +20,10 @@ use Rattle.sv_flat.specs.Process.{Todo, Print_text, Keep_print}
 use Rattle.sv_flat.specs.Statements.Shared.{Effects, goes_on, values_of, from_result, fails}
 use Rattle.sv_built.specs.declared.position.Position.{Position}
 use Rattle.sv_built.specs.Positions.{stmt_at}
-use Rattle.sv_process.specs.declared.effect.Effect.{Effect as Own_effect}
-use Rattle.sv_process.specs.declared.effect.Effect.TheVariants as effect
-use Rattle.sv_process.specs.declared.frames.Frame.{Frame}
-use Rattle.sv_process.specs.Effects.{strobe_at, strobe_of, effect_in, Leaves}
+use Rattle.sv_stack.specs.declared.effect.Effect.{Effect as Own_effect}
+use Rattle.sv_stack.specs.declared.effect.Effect.TheVariants as effect
+use Rattle.sv_stack.specs.declared.frames.Frame.{Frame}
+use Rattle.sv_stack.specs.Effects.{strobe_at, strobe_of, effect_in, Leaves}
 
 -- ---- the values, from the left
 

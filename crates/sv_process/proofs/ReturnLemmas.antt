@@ -15,10 +15,10 @@ use Rattle.sv_flat.specs.State.{Name}
 use Rattle.sv_flat.specs.Process.{Todo, routine_of}
 use Rattle.sv_flat.specs.Statements.Jumps.{after_return}
 use Rattle.sv_built.specs.Positions.{body_of, stmt_at}
-use Rattle.sv_process.specs.declared.frames.Frame.{Frame}
-use Rattle.sv_process.specs.declared.frames.Frame.TheVariants as frame
-use Rattle.sv_process.specs.Calls.{called_at, call_in, end_at, end_of_call, end_of_form, end_of_routine}
-use Rattle.sv_process.specs.Frames.{to_do, turn_at, turns_of, turns_at, elements_at, put_of, put_at, children_of, children_at, todos_in, todos_of, is_end, is_more}
+use Rattle.sv_stack.specs.declared.frames.Frame.{Frame}
+use Rattle.sv_stack.specs.declared.frames.Frame.TheVariants as frame
+use Rattle.sv_stack.specs.Calls.{called_at, call_in, end_at, end_of_call, end_of_form, end_of_routine}
+use Rattle.sv_stack.specs.Frames.{to_do, turn_at, turns_of, turns_at, elements_at, put_of, put_at, children_of, children_at, todos_in, todos_of, is_end, is_more}
 
 -- ---- the end of a call
 

@@ -30,20 +30,20 @@ use Rattle.sv_built.specs.declared.position.Position.{Position}
 use Rattle.sv_built.specs.Entered.{types_at, types_hidden}
 use Rattle.sv_built.specs.Built.{IsBuilt, IsBuiltStmt, IsBuiltForm, IsBuiltRoutine}
 use Rattle.sv_built.specs.Positions.{body_of, stmt_at}
-use Rattle.sv_process.specs.declared.frames.Frame.TheVariants as frame
+use Rattle.sv_stack.specs.declared.frames.Frame.TheVariants as frame
 use Rattle.sv_process.specs.declared.calls.Site.{Site as Own_site}
-use Rattle.sv_process.specs.Calls.{call_in, left_after, return_of, seen_from, site_of}
-use Rattle.sv_process.specs.Frames.{IsFirst}
+use Rattle.sv_stack.specs.Calls.{call_in, left_after, return_of, seen_from, site_of}
+use Rattle.sv_stack.specs.Frames.{IsFirst}
 use Rattle.sv_value.specs.declared.number.ProcessId.{ProcessId}
 use Rattle.sv_flat.specs.declared.design.Parts.{Parts}
 use Rattle.sv_flat.specs.declared.stmt.Stmt.{Stmt}
 use Rattle.sv_flat.specs.State.{View, Name}
 use Rattle.sv_flat.specs.Process.{Todo, Do, Enter, no_routine, no_place, routine_of}
 use Rattle.sv_eval.specs.declared.stopped.Stopped.{Stopped}
-use Rattle.sv_process.specs.declared.effect.Effect.{Effect as Own_effect}
-use Rattle.sv_process.specs.declared.frames.Frame.{Frame}
-use Rattle.sv_process.specs.declared.went.Went.{Went}
-use Rattle.sv_process.specs.Effects.{Leaves, Does, effects_of}
+use Rattle.sv_stack.specs.declared.effect.Effect.{Effect as Own_effect}
+use Rattle.sv_stack.specs.declared.frames.Frame.{Frame}
+use Rattle.sv_stack.specs.declared.went.Went.{Went}
+use Rattle.sv_stack.specs.Effects.{Leaves, Does, effects_of}
 use Rattle.sv_process.specs.Parts.{stmt_run, writes}
 
 -- ---- what is built of a design is built of its statements

@@ -24,13 +24,13 @@ use Rattle.sv_built.specs.declared.wait.Wait.TheVariants as wait
 use Rattle.sv_built.specs.Built.{IsBuiltExpr, IsBuiltOptional, IsBuiltWatch}
 use Rattle.sv_built.specs.Positions.{stmt_at}
 use Rattle.sv_built.specs.Waits.{control_of, condition_of, in_stmt, watches_at}
-use Rattle.sv_process.specs.declared.effect.Effect.{Effect as Own_effect}
-use Rattle.sv_process.specs.declared.effect.Effect.TheVariants as effect
-use Rattle.sv_process.specs.declared.frames.Frame.{Frame}
-use Rattle.sv_process.specs.declared.frames.Frame.TheVariants as frame
-use Rattle.sv_process.specs.Calls.{called_at}
-use Rattle.sv_process.specs.Frames.{todos_of}
-use Rattle.sv_process.specs.Effects.{effect_in, Leaves}
+use Rattle.sv_stack.specs.declared.effect.Effect.{Effect as Own_effect}
+use Rattle.sv_stack.specs.declared.effect.Effect.TheVariants as effect
+use Rattle.sv_stack.specs.declared.frames.Frame.{Frame}
+use Rattle.sv_stack.specs.declared.frames.Frame.TheVariants as frame
+use Rattle.sv_stack.specs.Calls.{called_at}
+use Rattle.sv_stack.specs.Frames.{todos_of}
+use Rattle.sv_stack.specs.Effects.{effect_in, Leaves}
 
 -- ---- delays
 

@@ -1,8 +1,2 @@
--- ---- what is left of calls
-pub mod Calls
--- ---- what a process has still to run
-pub mod Frames
--- ---- what a step does
-pub mod Effects
 -- ---- what statements do, by their parts
 pub mod Parts

@@ -9,19 +9,18 @@ ghost use Rattle.sv_flat.specs.Statements.Shared.{from_result, value_in, compute
 ghost use Rattle.sv_flat.specs.Targets as defined;
 ghost use Rattle.sv_assign.specs.Places.{spot_in, spots_in};
 ghost use Rattle.sv_built.specs.Positions.{stmt_at};
-ghost use Rattle.sv_process.specs.Frames.{todos_of};
-ghost use Rattle.sv_process.specs.Effects.{Leaves, Does, IsKept, effects_in};
+ghost use Rattle.sv_stack.specs.Frames.{todos_of};
+ghost use Rattle.sv_stack.specs.Effects.{Leaves, Does, IsKept, effects_in};
 ghost use Rattle.sv_process.specs.Parts.{writes};
 
-use crate::ends::{go_on, put, wait_with};
 use crate::waits::{delay_effect, ticks_in};
-use crate::{Effect, Frame, Frames};
 use std::alloc::Global;
 use sv_arena::Name;
 use sv_assign::{Scoped, Spot, spot_of, spots_of, target_value, target_values};
 use sv_built::{Design, Position};
 use sv_eval::{Stopped, Values, value};
 use sv_flat::{Expr, Lvalue, Stmt};
+use sv_stack::{Effect, Frame, Frames, go_on, put, wait_with};
 use sv_value::{NoMemory, Val};
 
 // ---- writes

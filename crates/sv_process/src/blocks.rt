@@ -5,14 +5,13 @@ ghost use Rattle.sv_flat.specs.Process.{body_in};
 ghost use Rattle.sv_flat.specs.Statements.Loops.{entered_with, inside};
 ghost use Rattle.sv_flat.specs.Statements.Shared.{goes_on};
 ghost use Rattle.sv_built.specs.Positions.{stmt_at};
-ghost use Rattle.sv_process.specs.Frames.{todos_of};
-ghost use Rattle.sv_process.specs.Effects.{Leaves};
+ghost use Rattle.sv_stack.specs.Frames.{todos_of};
+ghost use Rattle.sv_stack.specs.Effects.{Leaves};
 
-use crate::ends::{pass, pass_with};
-use crate::{Effect, Frames};
 use sv_arena::Name;
 use sv_built::{Design, Entered, Position};
 use sv_flat::{Declared, Stmt};
+use sv_stack::{Effect, Frames, pass, pass_with};
 use sv_value::{NoMemory, RoutineId};
 
 /// A block, with an activation where it declares variables.

@@ -5,17 +5,16 @@ ghost use Rattle.sv_flat.specs.Eval as eval;
 ghost use Rattle.sv_flat.specs.Process.{optional_body_in};
 ghost use Rattle.sv_flat.specs.Statements.{branch};
 ghost use Rattle.sv_flat.specs.Statements.Shared.{goes_on, value_in};
-ghost use Rattle.sv_process.specs.Frames.{todos_of};
-ghost use Rattle.sv_process.specs.Effects.{Leaves, Does, IsKept};
+ghost use Rattle.sv_stack.specs.Frames.{todos_of};
+ghost use Rattle.sv_stack.specs.Effects.{Leaves, Does, IsKept};
 
-use crate::ends::pass;
-use crate::{Effect, Frames};
 use std::alloc::Global;
 use sv_arena::Name;
 use sv_arith::any_one;
 use sv_built::Design;
 use sv_eval::{Stopped, Values, value, vector_in};
 use sv_flat::Expr;
+use sv_stack::{Effect, Frames, pass};
 use sv_value::{NoMemory, RoutineId, Sym, Val};
 
 /// Whether a value is true.

@@ -9,19 +9,17 @@ ghost use Rattle.sv_flat.specs.Statements.Routines.{activation_entered, argument
 ghost use Rattle.sv_flat.specs.Statements.Routines as routines;
 ghost use Rattle.sv_assign.specs.Places.{spot_in};
 ghost use Rattle.sv_built.specs.Positions.{stmt_at};
-ghost use Rattle.sv_process.specs.Calls.{call_in, left_after, return_of, site_of};
-ghost use Rattle.sv_process.specs.Frames.{todos_of};
-ghost use Rattle.sv_process.specs.Effects.{Does, IsKept, Puts, effects_in};
+ghost use Rattle.sv_stack.specs.Calls.{call_in, left_after, return_of, site_of};
+ghost use Rattle.sv_stack.specs.Frames.{todos_of};
+ghost use Rattle.sv_stack.specs.Effects.{Does, IsKept, Puts, effects_in};
 
-use crate::ends::{go_on, put};
-use crate::routines::subroutine_of;
-use crate::{Effect, Frame, Frames};
 use std::alloc::Global;
 use sv_arena::Name;
 use sv_assign::{Scoped, Spot, as_type};
 use sv_built::{Design, Entered, Position};
 use sv_eval::{Stopped, Values, value};
 use sv_flat::{Argument, Call, CallForm, Formal, Stmt, Subroutine, Variable};
+use sv_stack::{Effect, Frame, Frames, go_on, put, subroutine_of};
 use sv_value::{FaultKind, NoMemory, ObjectTarget, RoutineId};
 
 /// Where a call runs.

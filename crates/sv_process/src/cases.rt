@@ -8,18 +8,17 @@ ghost use Rattle.sv_flat.specs.Process.{optional_body_in};
 ghost use Rattle.sv_flat.specs.Statements.Matching.{matches, any_label, chosen_item};
 ghost use Rattle.sv_flat.specs.Statements.Shared.{goes_on, value_in, from_result};
 ghost use Rattle.sv_assign.specs.Places.{Answers};
-ghost use Rattle.sv_process.specs.Frames.{todos_of};
-ghost use Rattle.sv_process.specs.Effects.{Does, IsKept};
+ghost use Rattle.sv_stack.specs.Frames.{todos_of};
+ghost use Rattle.sv_stack.specs.Effects.{Does, IsKept};
 
 use crate::branches::enter_optional;
-use crate::ends::pass;
-use crate::{Effect, Frames};
 use std::alloc::Global;
 use sv_arena::Name;
 use sv_arith::case_matches;
 use sv_built::Design;
 use sv_eval::{Stopped, Values, value};
 use sv_flat::{CaseItem, Expr};
+use sv_stack::{Effect, Frames, pass};
 use sv_value::{Bits, CaseKind, NoMemory, RoutineId, Val};
 
 /// Whether a vector matches. Memory is wanting for vectors of two widths, which no elaborated design has.

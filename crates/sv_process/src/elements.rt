@@ -6,15 +6,14 @@ ghost use Rattle.sv_flat.specs.Eval.{element_count};
 ghost use Rattle.sv_flat.specs.Process.{Enter};
 ghost use Rattle.sv_flat.specs.Statements.Loops.{element_index, element_turn, int_type};
 ghost use Rattle.sv_built.specs.Positions.{stmt_at};
-ghost use Rattle.sv_process.specs.Frames.{todos_of};
-ghost use Rattle.sv_process.specs.Effects.{Leaves, effects_in};
+ghost use Rattle.sv_stack.specs.Frames.{todos_of};
+ghost use Rattle.sv_stack.specs.Effects.{Leaves, effects_in};
 
-use crate::ends::{go_on, put};
-use crate::{Effect, Frame, Frames};
 use sv_arena::Name;
 use sv_assign::Spot;
 use sv_built::{Design, Entered, Position};
 use sv_flat::{Bounds, Stmt};
+use sv_stack::{Effect, Frame, Frames, go_on, put};
 use sv_value::{Bits, NoMemory, RoutineId, Val};
 
 /// Whether an element is left after so many.

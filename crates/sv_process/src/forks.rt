@@ -8,19 +8,19 @@ ghost use Rattle.sv_flat.specs.Process.{Await_children, End_descendants, no_plac
 ghost use Rattle.sv_flat.specs.Statements.{spawn};
 ghost use Rattle.sv_flat.specs.Statements.Shared.{goes_on};
 ghost use Rattle.sv_built.specs.Positions.{stmt_at};
-ghost use Rattle.sv_process.specs.declared.frames.Frame.TheVariants as frame;
-ghost use Rattle.sv_process.specs.declared.went.Went.TheVariants.{On};
-ghost use Rattle.sv_process.specs.Frames.{todos_of, IsFirst};
-ghost use Rattle.sv_process.specs.Effects.{Leaves, effects_in, effects_of};
+ghost use Rattle.sv_stack.specs.declared.frames.Frame.TheVariants as frame;
+ghost use Rattle.sv_stack.specs.declared.went.Went.TheVariants.{On};
+ghost use Rattle.sv_stack.specs.Frames.{todos_of, IsFirst};
+ghost use Rattle.sv_stack.specs.Effects.{Leaves, effects_in, effects_of};
 ghost use Rattle.sv_process.specs.Parts.{fork_run, fork_starts, site_at};
 
-use crate::ends::{go_on, pass_with, put};
+use crate::Stepped;
 use crate::steps::stmt_of;
-use crate::{Effect, Frame, Frames, Stepped, Went};
 use sv_arena::Name;
 use sv_assign::Scoped;
 use sv_built::{Design, Entered, Position};
 use sv_flat::{Declared, Form, JoinKind, Stmt};
+use sv_stack::{Effect, Frame, Frames, Went, go_on, pass_with, put};
 use sv_value::{NoMemory, RoutineId};
 
 /// The children of a fork, behind other effects: at once, or behind their initializers.

@@ -4,8 +4,8 @@ ghost use Rattle.sv_value.specs.declared.number.ProcessId.{ProcessId};
 ghost use Rattle.sv_flat.specs.Statements.Jumps.{open_calls};
 ghost use Rattle.sv_built.specs.Built.{IsBuiltForm};
 ghost use Rattle.sv_built.specs.Positions.{stmt_at};
-ghost use Rattle.sv_process.specs.Frames.{todos_of};
-ghost use Rattle.sv_process.specs.Effects.{Does, IsKept};
+ghost use Rattle.sv_stack.specs.Frames.{todos_of};
+ghost use Rattle.sv_stack.specs.Effects.{Does, IsKept};
 ghost use Rattle.sv_process.specs.Parts.{stmt_run};
 
 use crate::assigns::{run_assign, run_assign_after};
@@ -22,13 +22,13 @@ use crate::others::{run_evaluate, run_finish};
 use crate::prints::{run_print, run_strobe};
 use crate::returns::{run_return, run_return_value};
 use crate::waits::{run_at, run_delay, run_wait};
-use crate::{Effect, Frames, Spare};
 use std::alloc::Global;
 use sv_arena::Name;
 use sv_assign::Scoped;
 use sv_built::{Design, Position};
 use sv_eval::Stopped;
 use sv_flat::{Form, PrintKind, Stmt};
+use sv_stack::{Effect, Frames, Spare};
 
 /// A statement whose calls were made; its branches and bodies see `outer`. Memory is wanting for forms that are not run.
 #[tactic(auto, using(crate::proofs::FormLemmas::by_form, crate::proofs::FormLemmas::call_is))]

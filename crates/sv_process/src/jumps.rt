@@ -4,15 +4,13 @@ ghost use Rattle.sv_flat.specs.Process.{optional_body_in};
 ghost use Rattle.sv_flat.specs.Statements.Jumps.{after_break, after_continue};
 ghost use Rattle.sv_flat.specs.Statements.Shared.{goes_on};
 ghost use Rattle.sv_built.specs.Positions.{stmt_at};
-ghost use Rattle.sv_process.specs.Frames.{todos_in, todos_of, scope_in, is_turn, step_in, step_at};
-ghost use Rattle.sv_process.specs.Effects.{Leaves};
+ghost use Rattle.sv_stack.specs.Frames.{todos_in, todos_of, scope_in, is_turn, step_in, step_at};
+ghost use Rattle.sv_stack.specs.Effects.{Leaves};
 
 use crate::branches::enter_optional;
-use crate::ends::pass;
-use crate::frames::{is_repeat, is_stmt, scope_in};
-use crate::{Effect, Frame, Frames};
 use sv_built::{Design, Position};
 use sv_flat::Form;
+use sv_stack::{Effect, Frame, Frames, is_repeat, is_stmt, pass, scope_in};
 use sv_value::{NoMemory, RoutineId};
 
 /// Whether an entry is that of a loop.

@@ -5,18 +5,17 @@ ghost use Rattle.sv_flat.specs.Statements.Delays as delays;
 ghost use Rattle.sv_flat.specs.Statements.Shared.{from_result, value_in, computed, updates_for};
 ghost use Rattle.sv_flat.specs.Targets as defined;
 ghost use Rattle.sv_assign.specs.Places.{spot_in, spots_in};
-ghost use Rattle.sv_process.specs.Frames.{todos_of};
-ghost use Rattle.sv_process.specs.Effects.{Leaves, Does, IsKept};
+ghost use Rattle.sv_stack.specs.Frames.{todos_of};
+ghost use Rattle.sv_stack.specs.Effects.{Leaves, Does, IsKept};
 ghost use Rattle.sv_process.specs.Parts.{updates, Reaches};
 
-use crate::ends::pass_with;
 use crate::waits::{moment_after, ticks_in};
-use crate::{Effect, Frames, Spare};
 use std::alloc::Global;
 use sv_assign::{Scoped, Spot, spot_of, spots_of, target_value, target_values};
 use sv_built::Design;
 use sv_eval::{Stopped, Values, value};
 use sv_flat::{Expr, Lvalue};
+use sv_stack::{Effect, Frames, Spare, pass_with};
 use sv_value::{FaultKind, Job, NoMemory, Seq, Update, Val};
 
 // ---- updates

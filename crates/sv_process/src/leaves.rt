@@ -3,19 +3,18 @@ ghost use Rattle.std.specs.Prelude.{◌≡◌, ◌++◌, [], drop, IfOk, OnOk};
 ghost use Rattle.sv_flat.specs.Statements.Routines.{copied_out, left, output, outputs_of, result_given};
 ghost use Rattle.sv_flat.specs.Statements.Routines as routines;
 ghost use Rattle.sv_flat.specs.Statements.Shared.{result_write};
-ghost use Rattle.sv_process.specs.Calls.{output_writes, return_of};
-ghost use Rattle.sv_process.specs.Frames.{todos_of};
-ghost use Rattle.sv_process.specs.Effects.{Does, IsKept, Puts, effects_in};
+ghost use Rattle.sv_stack.specs.Calls.{output_writes, return_of};
+ghost use Rattle.sv_stack.specs.Frames.{todos_of};
+ghost use Rattle.sv_stack.specs.Effects.{Does, IsKept, Puts, effects_in};
 
 use crate::assigns::write_all;
-use crate::ends::{go_on, put};
-use crate::{Effect, Frames};
 use std::alloc::Global;
 use sv_arena::Name;
 use sv_assign::{Scoped, Spot, spots_of, target_values};
 use sv_built::Design;
 use sv_eval::{Stopped, Values};
 use sv_flat::{Argument, Formal, Lvalue, Subroutine, Variable};
+use sv_stack::{Effect, Frames, go_on, put};
 use sv_value::{NoMemory, Val};
 
 /// The value of a variable of the subroutine.

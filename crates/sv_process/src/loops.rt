@@ -7,17 +7,16 @@ ghost use Rattle.sv_flat.specs.Process.{body_in, routine_of};
 ghost use Rattle.sv_flat.specs.Statements.Loops.{turned, done_first, repeated};
 ghost use Rattle.sv_flat.specs.Statements.Shared.{goes_on, value_in, count_of};
 ghost use Rattle.sv_built.specs.Positions.{stmt_at};
-ghost use Rattle.sv_process.specs.Frames.{todos_of};
-ghost use Rattle.sv_process.specs.Effects.{Leaves, Does, IsKept};
+ghost use Rattle.sv_stack.specs.Frames.{todos_of};
+ghost use Rattle.sv_stack.specs.Effects.{Leaves, Does, IsKept};
 
 use crate::branches::{enter_optional, is_true};
-use crate::ends::pass;
-use crate::{Effect, Frame, Frames};
 use std::alloc::Global;
 use sv_arena::Name;
 use sv_built::{Design, Position};
 use sv_eval::{Stopped, Values, known_index, value, vector_in};
 use sv_flat::{Expr, Form, Stmt};
+use sv_stack::{Effect, Frame, Frames, pass};
 use sv_value::{Bits, NoMemory, RoutineId};
 
 /// A turn of a `while` comes before the others: its body, the step of a `for`, and the next test.

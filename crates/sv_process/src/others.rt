@@ -2,15 +2,14 @@
 ghost use Rattle.std.specs.Prelude.{◌≡◌, ◌∷◌, [], drop, OnOk};
 ghost use Rattle.sv_flat.specs.Process.{Finish_run};
 ghost use Rattle.sv_flat.specs.Statements.Shared.{goes_on, value_in};
-ghost use Rattle.sv_process.specs.Frames.{todos_of};
-ghost use Rattle.sv_process.specs.Effects.{Leaves, Does, IsKept};
+ghost use Rattle.sv_stack.specs.Frames.{todos_of};
+ghost use Rattle.sv_stack.specs.Effects.{Leaves, Does, IsKept};
 
-use crate::ends::{pass, pass_with};
-use crate::{Effect, Frames};
 use std::alloc::Global;
 use sv_built::Design;
 use sv_eval::{Stopped, Values, value};
 use sv_flat::Expr;
+use sv_stack::{Effect, Frames, pass, pass_with};
 use sv_value::NoMemory;
 
 /// An expression whose value is not used.

@@ -9,16 +9,15 @@ ghost use Rattle.sv_flat.specs.Process.{Print_text, Keep_print};
 ghost use Rattle.sv_flat.specs.Statements.Shared.{goes_on, values_of, from_result};
 ghost use Rattle.sv_assign.specs.Places.{Answers};
 ghost use Rattle.sv_built.specs.Positions.{stmt_at};
-ghost use Rattle.sv_process.specs.Frames.{todos_of};
-ghost use Rattle.sv_process.specs.Effects.{Leaves, Does, IsKept};
+ghost use Rattle.sv_stack.specs.Frames.{todos_of};
+ghost use Rattle.sv_stack.specs.Effects.{Leaves, Does, IsKept};
 ghost use Rattle.sv_process.specs.Parts.{text_of};
 
-use crate::ends::pass_with;
-use crate::{Effect, Frames};
 use std::alloc::Global;
 use sv_built::{Design, Position};
 use sv_eval::{Stopped, Values, printed_field, value};
 use sv_flat::{Expr, Stmt};
+use sv_stack::{Effect, Frames, pass_with};
 use sv_value::{FaultKind, NoMemory, Piece, Text, Val};
 
 /// The values of expressions, from the left.

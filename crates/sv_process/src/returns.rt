@@ -2,19 +2,17 @@
 ghost use Rattle.std.specs.Prelude.{◌≡◌, [], drop, OnOk};
 ghost use Rattle.sv_flat.specs.Statements.Jumps.{after_return};
 ghost use Rattle.sv_flat.specs.Statements.Shared.{computed, goes_on};
-ghost use Rattle.sv_process.specs.Frames.{todos_of};
-ghost use Rattle.sv_process.specs.Effects.{Leaves, Does, IsKept};
+ghost use Rattle.sv_stack.specs.Frames.{todos_of};
+ghost use Rattle.sv_stack.specs.Effects.{Leaves, Does, IsKept};
 ghost use Rattle.sv_process.specs.Parts.{writes};
 
 use crate::assigns::write_values;
-use crate::ends::pass;
-use crate::frames::is_end;
-use crate::{Effect, Frames};
 use std::alloc::Global;
 use sv_assign::{Scoped, spots_of};
 use sv_built::Design;
 use sv_eval::{Stopped, value};
 use sv_flat::{Expr, Lvalue};
+use sv_stack::{Effect, Frames, is_end, pass};
 use sv_value::NoMemory;
 
 /// Leaves all up to the end of the innermost call.

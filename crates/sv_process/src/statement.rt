@@ -6,19 +6,18 @@ ghost use Rattle.sv_flat.specs.Statements.Jumps.{open_calls};
 ghost use Rattle.sv_assign.specs.Seen.{view_in};
 ghost use Rattle.sv_built.specs.Built.{IsBuilt};
 ghost use Rattle.sv_built.specs.Positions.{stmt_at};
-ghost use Rattle.sv_process.specs.Calls.{seen_from};
-ghost use Rattle.sv_process.specs.Frames.{todos_of, SeesAll};
-ghost use Rattle.sv_process.specs.Effects.{effects_of, is_held};
+ghost use Rattle.sv_stack.specs.Calls.{seen_from};
+ghost use Rattle.sv_stack.specs.Frames.{todos_of, SeesAll};
+ghost use Rattle.sv_stack.specs.Effects.{effects_of, is_held};
 
 use crate::calls::{Site, run_call};
 use crate::forms::run_form;
-use crate::went::{went_into, went_of};
-use crate::{Effect, Frames, Inside, Spare, Went};
 use std::alloc::Global;
 use sv_arena::Name;
 use sv_assign::Seen;
 use sv_built::{Design, Entered, Position};
 use sv_flat::{Call, Stmt};
+use sv_stack::{Effect, Frames, Inside, Spare, Went, went_into, went_of};
 use sv_value::NoMemory;
 
 /// Where the first of the calls before a statement runs: inside the activation that is made for it. Memory is wanting where no name is left

@@ -1,7 +1,7 @@
 // The next step of a process (IEEE 1800-2017, 4.4.2 and 9.2).
 ghost use Rattle.std.specs.Prelude.{◌≡◌, ◌∷◌, [], Option, None, Some, true, unwrap_or, IfOk, IfSome, OnOk};
 ghost use Rattle.sv_flat.specs.declared.call.CallForm.TheVariants as form;
-ghost use Rattle.sv_process.specs.declared.went.Went.TheVariants.{Held, On};
+ghost use Rattle.sv_stack.specs.declared.went.Went.TheVariants.{Held, On};
 ghost use Rattle.sv_value.specs.declared.number.ProcessId.{ProcessId};
 ghost use Rattle.sv_value.specs.declared.val.Message.{Message};
 ghost use Rattle.sv_flat.specs.Micro.{Looks, run_first, place_of_step};
@@ -9,27 +9,24 @@ ghost use Rattle.sv_flat.specs.Process.{no_place};
 ghost use Rattle.sv_assign.specs.Seen.{view_in};
 ghost use Rattle.sv_built.specs.Built.{IsBuilt};
 ghost use Rattle.sv_built.specs.Positions.{stmt_at};
-ghost use Rattle.sv_process.specs.declared.frames.Frame.TheVariants as frame;
-ghost use Rattle.sv_process.specs.declared.effect.Effect.TheVariants.{End};
-ghost use Rattle.sv_process.specs.Calls.{call_in};
-ghost use Rattle.sv_process.specs.Frames.{todos_of, IsFirst, SeesAll};
-ghost use Rattle.sv_process.specs.Effects.{effects_of, is_held};
+ghost use Rattle.sv_stack.specs.declared.frames.Frame.TheVariants as frame;
+ghost use Rattle.sv_stack.specs.declared.effect.Effect.TheVariants.{End};
+ghost use Rattle.sv_stack.specs.Calls.{call_in};
+ghost use Rattle.sv_stack.specs.Frames.{todos_of, IsFirst, SeesAll};
+ghost use Rattle.sv_stack.specs.Effects.{effects_of, is_held};
 
 use crate::assigns::run_put;
 use crate::elements::run_elements;
-use crate::ends::put;
 use crate::forks::step_children;
 use crate::leaves::run_leave;
 use crate::loops::run_turns;
-use crate::routines::{call_of, subroutine_of};
 use crate::statement::run_stmt;
-use crate::went::went_of;
-use crate::{Effect, Frame, Frames, Spare, Went};
 use std::alloc::Global;
 use sv_arena::Name;
 use sv_assign::{Scoped, Seen};
 use sv_built::{Design, Position};
 use sv_flat::{Argument, Call, CallForm, Form, Stmt};
+use sv_stack::{Effect, Frame, Frames, Spare, Went, call_of, put, subroutine_of, went_of};
 use sv_value::{NoMemory, Place, RoutineId, Val};
 
 /// A place in no source.

@@ -13,17 +13,16 @@ ghost use Rattle.sv_flat.specs.Statements.Events.{frozen, frozen_watches};
 ghost use Rattle.sv_flat.specs.Statements.Shared.{goes_on, waits, value_in};
 ghost use Rattle.sv_built.specs.Built.{IsBuiltExpr, IsBuiltWatch};
 ghost use Rattle.sv_built.specs.Positions.{stmt_at};
-ghost use Rattle.sv_process.specs.Frames.{todos_of};
-ghost use Rattle.sv_process.specs.Effects.{Leaves, Does, IsKept, effect_in};
+ghost use Rattle.sv_stack.specs.Frames.{todos_of};
+ghost use Rattle.sv_stack.specs.Effects.{Leaves, Does, IsKept, effect_in};
 
 use crate::branches::is_true;
-use crate::ends::{pass, wait_with};
-use crate::{Effect, Frame, Frames};
 use std::alloc::Global;
 use sv_arena::Name;
 use sv_built::{Design, Position, Wait};
 use sv_eval::{Stopped, Values, value, vector_in};
 use sv_flat::{Expr, Stmt, Watch};
+use sv_stack::{Effect, Frame, Frames, pass, wait_with};
 use sv_value::{Bits, FaultKind, NoMemory, Val};
 
 const END_OF_TIME: u128 = 1 << 63;

@@ -8,8 +8,8 @@ use Rattle.sv_built.specs.Positions.{stmt_at}
 use Rattle.sv_assign.specs.Places.{spot_in}
 use Rattle.sv_sound.specs.Sound.{IsPlainEffect, IsPlainSpot}
 use Rattle.sv_sense.proofs.SenseLaws.{ok_given}
-use Rattle.sv_process.specs.declared.effect.Effect.{Effect as Own_effect}
-use Rattle.sv_process.specs.Effects.{effect_in}
+use Rattle.sv_stack.specs.declared.effect.Effect.{Effect as Own_effect}
+use Rattle.sv_stack.specs.Effects.{effect_in}
 use Rattle.sv_machine.specs.declared.machine.Machine.{Machine}
 use Rattle.sv_machine.specs.declared.machine.Kept.{Kept}
 use Rattle.sv_machine.specs.declared.line.Line.{Line}

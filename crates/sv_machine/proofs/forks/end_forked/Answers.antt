@@ -3,8 +3,8 @@ use Rattle.std.specs.Vec.{with_item}
 use Rattle.sv_value.specs.declared.schedule.Region.{Region}
 use Rattle.sv_value.specs.Regions.{ready_in}
 use Rattle.sv_fork.specs.Tree.{Member, ended_in, side_of}
-use Rattle.sv_process.specs.declared.frames.Frame.{Frame}
-use Rattle.sv_process.specs.Frames.{todos_of}
+use Rattle.sv_stack.specs.declared.frames.Frame.{Frame}
+use Rattle.sv_stack.specs.Frames.{todos_of}
 use Rattle.sv_sense.proofs.SenseLaws.{ok_given}
 use Rattle.sv_machine.specs.declared.machine.Machine.{Machine}
 use Rattle.sv_machine.proofs.EndLaws.{left_with}

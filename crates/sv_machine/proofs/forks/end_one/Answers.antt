@@ -1,7 +1,7 @@
 use Rattle.std.proofs.Common.{◌∙◌, List, ap, map, slice_set}
 use Rattle.std.specs.Vec.{with_item}
-use Rattle.sv_process.specs.declared.frames.Frame.{Frame}
-use Rattle.sv_process.specs.Frames.{todos_of}
+use Rattle.sv_stack.specs.declared.frames.Frame.{Frame}
+use Rattle.sv_stack.specs.Frames.{todos_of}
 use Rattle.sv_machine.proofs.EndLaws.{left_with}
 use Rattle.sv_machine.proofs.forks.end_one.Goals as goal
 

@@ -1,5 +1,5 @@
 use Rattle.std.proofs.Common.{◌≡◌, ◌∷◌, [], None, take, map}
-use Rattle.sv_process.specs.declared.frames.Frame.TheVariants.{Rest}
+use Rattle.sv_stack.specs.declared.frames.Frame.TheVariants.{Rest}
 use Rattle.sv_machine.proofs.opening.at_beginnings.Given as goal
 
 abbrev pub invariant-loop-process : goal.invariant-loop-process

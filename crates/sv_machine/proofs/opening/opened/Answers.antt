@@ -7,8 +7,8 @@ use Rattle.sv_flat.specs.Config.{starts}
 use Rattle.sv_flat.specs.Opening.{opening}
 use Rattle.sv_flat.specs.State.{World}
 use Rattle.sv_sound.proofs.Opening.{opening_only, opening_sound}
-use Rattle.sv_process.specs.declared.frames.Frame.TheVariants.{Rest}
-use Rattle.sv_process.specs.Frames.{todos_of}
+use Rattle.sv_stack.specs.declared.frames.Frame.TheVariants.{Rest}
+use Rattle.sv_stack.specs.Frames.{todos_of}
 use Rattle.sv_machine.specs.Machine.{strobe_at}
 use Rattle.sv_machine.specs.Waits.{awaited_at}
 use Rattle.sv_machine.specs.Opening.{first_member, first_regions, starter_count}

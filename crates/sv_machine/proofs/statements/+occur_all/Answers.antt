@@ -3,8 +3,8 @@ use Rattle.std.specs.Prelude.{OnOk, reverse, IsNone, is_some}
 use Rattle.std.specs.List.{AllByRecursion}
 use Rattle.sv_flat.specs.Effects.{all_occurred}
 use Rattle.sv_sound.specs.Sound.{IsPlainEffect}
-use Rattle.sv_process.specs.declared.effect.Effect.{Effect as Own_effect}
-use Rattle.sv_process.specs.Effects.{effect_in, effects_in}
+use Rattle.sv_stack.specs.declared.effect.Effect.{Effect as Own_effect}
+use Rattle.sv_stack.specs.Effects.{effect_in, effects_in}
 use Rattle.sv_sense.proofs.SenseLaws.{ok_given}
 use Rattle.sv_machine.specs.Machine.{IsAt, Does}
 use Rattle.sv_machine.proofs.StepLaws.{reverse_last, last_does, more_does, at_after}

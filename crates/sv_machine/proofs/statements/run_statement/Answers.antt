@@ -3,8 +3,8 @@ use Rattle.std.specs.Prelude.{reverse, get_or}
 use Rattle.std.specs.List.{AllByRecursion}
 use Rattle.std.specs.Vec.{with_item}
 use Rattle.sv_sound.specs.Sound.{IsPlainEffect}
-use Rattle.sv_process.specs.declared.effect.Effect.{Effect as Own_effect}
-use Rattle.sv_process.specs.Effects.{effects_in}
+use Rattle.sv_stack.specs.declared.effect.Effect.{Effect as Own_effect}
+use Rattle.sv_stack.specs.Effects.{effects_in}
 use Rattle.sv_machine.specs.Steps.{effects_done}
 use Rattle.sv_sense.proofs.SenseLaws.{ok_given}
 use Rattle.sv_flat.specs.Process.{Effect}

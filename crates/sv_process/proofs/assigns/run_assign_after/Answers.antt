@@ -1,9 +1,9 @@
 use Rattle.std.proofs.Common.{List, [], ◌∷◌, ap, sym, subst, ◌∙◌}
 use Rattle.sv_flat.specs.Statements.Delays.{delayed}
 use Rattle.sv_flat.specs.Statements.Shared.{waits}
-use Rattle.sv_process.specs.declared.frames.Frame.{Frame}
-use Rattle.sv_process.specs.Frames.{todos_of}
-use Rattle.sv_process.specs.Effects.{Leaves, effect_in}
+use Rattle.sv_stack.specs.declared.frames.Frame.{Frame}
+use Rattle.sv_stack.specs.Frames.{todos_of}
+use Rattle.sv_stack.specs.Effects.{Leaves, effect_in}
 use Rattle.sv_process.proofs.AssignLemmas.{put_off}
 use Rattle.sv_process.proofs.assigns.run_assign_after.Goals as goal
 

@@ -1,5 +1,5 @@
 use Rattle.std.proofs.Common.{rules, ◌++◌, ap, sym, ◌∙◌, append-nil}
-use Rattle.sv_process.specs.Effects.{effects_in}
+use Rattle.sv_stack.specs.Effects.{effects_in}
 use Rattle.sv_process.proofs.assigns.write_all.Goals as goal
 
 pub loop-out-preserved : goal.loop-out-preserved

@@ -2,7 +2,7 @@ use Rattle.std.proofs.Common.{◌≡◌, ◌++◌, length}
 use Rattle.sv_flat.specs.declared.design.Parts.{Parts}
 use Rattle.sv_flat.specs.Statements.Shared.{written}
 use Rattle.sv_assign.specs.Places.{spots_in}
-use Rattle.sv_process.specs.Effects.{effects_in}
+use Rattle.sv_stack.specs.Effects.{effects_in}
 use Rattle.sv_process.proofs.assigns.write_all.Given as goal
 
 -- what is written, and what is still to be written

@@ -1,6 +1,6 @@
 use Rattle.std.proofs.Common.{◌≡◌, length}
 use Rattle.sv_flat.specs.Statements.Jumps.{after_break}
-use Rattle.sv_process.specs.Frames.{todos_of}
+use Rattle.sv_stack.specs.Frames.{todos_of}
 use Rattle.sv_process.proofs.jumps.leave_loop.Given as goal
 
 abbrev pub invariant-loop-frame : goal.invariant-loop-frame

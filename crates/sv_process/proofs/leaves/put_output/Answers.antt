@@ -1,4 +1,4 @@
-use Rattle.sv_process.specs.Effects.{effects_in}
+use Rattle.sv_stack.specs.Effects.{effects_in}
 use Rattle.sv_process.proofs.LeaveLemmas.{output_put}
 use Rattle.sv_process.proofs.leaves.put_output.Goals as goal
 

@@ -1,5 +1,5 @@
 use Rattle.std.proofs.Common.{Some, drop}
-use Rattle.sv_process.specs.Frames.{todos_of}
+use Rattle.sv_stack.specs.Frames.{todos_of}
 use Rattle.sv_process.proofs.StepLemmas.{next_call}
 use Rattle.sv_process.proofs.statement.run_next_call.Goals as goal
 

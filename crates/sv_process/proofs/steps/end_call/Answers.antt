@@ -1,6 +1,6 @@
 use Rattle.std.proofs.Common.{rules, subst, sym}
-use Rattle.sv_process.specs.Frames.{todos_of}
-use Rattle.sv_process.specs.Effects.{Does}
+use Rattle.sv_stack.specs.Frames.{todos_of}
+use Rattle.sv_stack.specs.Effects.{Does}
 use Rattle.sv_process.proofs.StepLemmas.{end_first, place_of_end}
 use Rattle.sv_process.proofs.steps.end_call.Goals as goal
 

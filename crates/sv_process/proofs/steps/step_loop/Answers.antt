@@ -1,5 +1,5 @@
 use Rattle.std.proofs.Common.{rules, ◌∙◌}
-use Rattle.sv_process.specs.Frames.{todos_of}
+use Rattle.sv_stack.specs.Frames.{todos_of}
 use Rattle.sv_process.proofs.StepLemmas.{loop_first, loop_no_end}
 use Rattle.sv_process.proofs.steps.step_loop.Goals as goal
 

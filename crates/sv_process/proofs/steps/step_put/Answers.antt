@@ -2,8 +2,8 @@ use Rattle.std.proofs.Common.{rules, List, drop, subst}
 use Rattle.sv_flat.specs.declared.target.Lvalue.{Lvalue}
 use Rattle.sv_flat.specs.Statements.Shared.{from_result}
 use Rattle.sv_flat.specs.Targets.{spots_of}
-use Rattle.sv_process.specs.Frames.{todos_of}
-use Rattle.sv_process.specs.Effects.{Does}
+use Rattle.sv_stack.specs.Frames.{todos_of}
+use Rattle.sv_stack.specs.Effects.{Does}
 use Rattle.sv_process.specs.Parts.{writes}
 use Rattle.sv_process.proofs.StepLemmas.{put_first}
 use Rattle.sv_process.proofs.steps.step_put.Goals as goal

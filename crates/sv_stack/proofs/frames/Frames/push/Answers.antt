@@ -1,6 +1,6 @@
 use Rattle.std.proofs.Common.{arith}
-use Rattle.sv_process.proofs.DepthLemmas.{ends_pushed}
-use Rattle.sv_process.proofs.frames.Frames.push.Goals as goal
+use Rattle.sv_stack.proofs.DepthLemmas.{ends_pushed}
+use Rattle.sv_stack.proofs.frames.Frames.push.Goals as goal
 
 pub overflow_add-self : goal.overflow_add-self
 overflow_add-self c =

@@ -7,9 +7,9 @@ ghost use Rattle.sv_flat.specs.Process.{body_in};
 ghost use Rattle.sv_flat.specs.State.{Name};
 ghost use Rattle.sv_built.specs.Positions.{stmt_at};
 ghost use Rattle.sv_flat.specs.Statements.Jumps.{open_calls};
-ghost use Rattle.sv_process.specs.declared.frames.Frame.TheVariants.{Rest};
-ghost use Rattle.sv_process.specs.Calls.{called_at, end_at, end_of_call};
-ghost use Rattle.sv_process.specs.Frames.{todos_in, todos_of, turn_at, turns_at, elements_at, put_at, children_at, scope_in, ends_in, is_end, is_more, IsFirst, IsSettled};
+ghost use Rattle.sv_stack.specs.declared.frames.Frame.TheVariants.{Rest};
+ghost use Rattle.sv_stack.specs.Calls.{called_at, end_at, end_of_call};
+ghost use Rattle.sv_stack.specs.Frames.{todos_in, todos_of, turn_at, turns_at, elements_at, put_at, children_at, scope_in, ends_in, is_end, is_more, IsFirst, IsSettled};
 
 use crate::routines::{call_of, subroutine_of};
 use smallvec::SmallVec;
@@ -136,8 +136,8 @@ pub struct Frames {
 
 impl Model for Frames {
     ghost use Rattle.std.specs.Prelude.{◌≡◌, List, reverse};
-    ghost use Rattle.sv_process.specs.declared.frames.Frame.{Frame};
-    ghost use Rattle.sv_process.specs.Frames.{ends_of};
+    ghost use Rattle.sv_stack.specs.declared.frames.Frame.{Frame};
+    ghost use Rattle.sv_stack.specs.Frames.{ends_of};
 
     ghost Value = { List Frame };
 

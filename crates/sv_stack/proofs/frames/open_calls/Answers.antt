@@ -1,7 +1,7 @@
 use Rattle.std.proofs.Common.{true, false, arith}
-use Rattle.sv_process.proofs.DepthLemmas.{open_next}
-use Rattle.sv_process.proofs.frames.open_calls.Goals as goal
-use Rattle.sv_process.proofs.frames.open_calls.Goals.{then-is_end, else-is_end}
+use Rattle.sv_stack.proofs.DepthLemmas.{open_next}
+use Rattle.sv_stack.proofs.frames.open_calls.Goals as goal
+use Rattle.sv_stack.proofs.frames.open_calls.Goals.{then-is_end, else-is_end}
 
 pub loop-frame-preserved : goal.loop-frame-preserved
 loop-frame-preserved c =

@@ -4,11 +4,11 @@ use Rattle.std.proofs.lemmas.List.{append-nil, map-append}
 use Rattle.sv_flat.specs.declared.design.Parts.{Parts}
 use Rattle.sv_flat.specs.Process.{Todo, Remain}
 use Rattle.sv_flat.specs.Statements.Shared.{ending, goes_on}
-use Rattle.sv_process.specs.declared.effect.Effect.{Effect as Own_effect}
-use Rattle.sv_process.specs.declared.effect.Effect.TheVariants as effect
-use Rattle.sv_process.specs.declared.frames.Frame.{Frame}
-use Rattle.sv_process.specs.Frames.{todos_of, is_more}
-use Rattle.sv_process.specs.Effects.{effect_in, effects_in, Leaves}
+use Rattle.sv_stack.specs.declared.effect.Effect.{Effect as Own_effect}
+use Rattle.sv_stack.specs.declared.effect.Effect.TheVariants as effect
+use Rattle.sv_stack.specs.declared.frames.Frame.{Frame}
+use Rattle.sv_stack.specs.Frames.{todos_of, is_more}
+use Rattle.sv_stack.specs.Effects.{effect_in, effects_in, Leaves}
 
 -- where something is left, nothing is added
 pub not_ended : (d : Parts) (fs : List Frame) (es : List Own_effect) (ts : List Todo) → todos_of d fs ≡ ts → is_more (todos_of d fs) ≡ true

@@ -1,7 +1,7 @@
 // Which routine a call runs.
 ghost use Rattle.std.specs.Prelude.{◌≡◌, Some, None, IfSome, IfNone};
 ghost use Rattle.sv_flat.specs.Process.{routine_of};
-ghost use Rattle.sv_process.specs.Calls.{call_in};
+ghost use Rattle.sv_stack.specs.Calls.{call_in};
 
 use sv_built::Design;
 use sv_flat::{Call, Form, Stmt, Subroutine};

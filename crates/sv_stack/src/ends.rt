@@ -1,8 +1,8 @@
 // How a statement ends.
 ghost use Rattle.std.specs.Prelude.{◌≡◌, ◌∷◌, ◌++◌, [], OnOk};
 ghost use Rattle.sv_flat.specs.Statements.Shared.{goes_on, waits};
-ghost use Rattle.sv_process.specs.Frames.{todos_of};
-ghost use Rattle.sv_process.specs.Effects.{Leaves, effect_in, effects_in};
+ghost use Rattle.sv_stack.specs.Frames.{todos_of};
+ghost use Rattle.sv_stack.specs.Effects.{Leaves, effect_in, effects_in};
 
 use crate::{Effect, Frames};
 use sv_built::Design;

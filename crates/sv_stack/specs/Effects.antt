@@ -17,12 +17,12 @@ use Rattle.sv_built.specs.Positions.{stmt_at}
 use Rattle.sv_built.specs.Waits.{watches_at}
 use Rattle.sv_eval.specs.declared.stopped.Stopped.{Stopped}
 use Rattle.sv_eval.specs.declared.stopped.Stopped.TheVariants.{Memory, Fault}
-use Rattle.sv_process.specs.declared.effect.Effect.{Effect as Own_effect}
-use Rattle.sv_process.specs.declared.effect.Effect.TheVariants as effect
-use Rattle.sv_process.specs.declared.frames.Frame.{Frame}
-use Rattle.sv_process.specs.declared.went.Went.{Went}
-use Rattle.sv_process.specs.declared.went.Went.TheVariants as went
-use Rattle.sv_process.specs.Frames.{todos_of}
+use Rattle.sv_stack.specs.declared.effect.Effect.{Effect as Own_effect}
+use Rattle.sv_stack.specs.declared.effect.Effect.TheVariants as effect
+use Rattle.sv_stack.specs.declared.frames.Frame.{Frame}
+use Rattle.sv_stack.specs.declared.went.Went.{Went}
+use Rattle.sv_stack.specs.declared.went.Went.TheVariants as went
+use Rattle.sv_stack.specs.Frames.{todos_of}
 use Rattle.sv_assign.specs.Places.{Stops, spot_in}
 
 -- what a `$strobe` prints as the slot ends

@@ -1,7 +1,7 @@
 use Rattle.std.proofs.Common.{◌≡◌, ◌≤◌, reverse, take}
 use Rattle.sv_flat.specs.Statements.Jumps.{open_calls}
-use Rattle.sv_process.specs.Frames.{todos_of}
-use Rattle.sv_process.proofs.frames.open_calls.Given as goal
+use Rattle.sv_stack.specs.Frames.{todos_of}
+use Rattle.sv_stack.proofs.frames.open_calls.Given as goal
 
 -- the calls that the entries so far hold open
 abbrev pub invariant-loop-frame : goal.invariant-loop-frame

@@ -21,9 +21,9 @@ use Rattle.sv_flat.specs.Process.{Todo, Do, Turn, Turns, Walk_elements, Start_ch
 use Rattle.sv_flat.specs.Statements.Jumps.{step_of}
 use Rattle.sv_built.specs.declared.position.Position.{Position}
 use Rattle.sv_built.specs.Positions.{body_of, stmt_at}
-use Rattle.sv_process.specs.Calls.{call_in, called_at, end_at, return_of, seen_from}
-use Rattle.sv_process.specs.declared.frames.Frame.{Frame}
-use Rattle.sv_process.specs.declared.frames.Frame.TheVariants as frame
+use Rattle.sv_stack.specs.Calls.{call_in, called_at, end_at, return_of, seen_from}
+use Rattle.sv_stack.specs.declared.frames.Frame.{Frame}
+use Rattle.sv_stack.specs.declared.frames.Frame.TheVariants as frame
 
 -- a statement with all of its calls, to run in a scope
 abbrev pub to_do : (scope : Option Name) → Stmt → Todo

@@ -4,9 +4,9 @@ ghost use Rattle.sv_flat.specs.declared.design.Parts.{Parts};
 ghost use Rattle.sv_flat.specs.Process.{Enter};
 ghost use Rattle.sv_flat.specs.Statements.Shared.{Effects};
 ghost use Rattle.sv_built.specs.Entered.{types_at};
-ghost use Rattle.sv_process.specs.declared.frames.Frame.{Frame as Entry};
-ghost use Rattle.sv_process.specs.declared.effect.Effect.TheVariants.{Fail};
-ghost use Rattle.sv_process.specs.Effects.{Does, IsKept, effects_of, is_held};
+ghost use Rattle.sv_stack.specs.declared.frames.Frame.{Frame as Entry};
+ghost use Rattle.sv_stack.specs.declared.effect.Effect.TheVariants.{Fail};
+ghost use Rattle.sv_stack.specs.Effects.{Does, IsKept, effects_of, is_held};
 
 use crate::Effect;
 use crate::ends::put;

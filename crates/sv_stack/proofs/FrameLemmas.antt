@@ -20,10 +20,10 @@ use Rattle.sv_flat.specs.State.{Name}
 use Rattle.sv_flat.specs.Process.{Todo, Turn, Turns, Walk_elements, Put, Start_children, body_in, Do, Leave, routine_of}
 use Rattle.sv_built.specs.declared.position.Position.{Position}
 use Rattle.sv_built.specs.Positions.{body_of, stmt_at}
-use Rattle.sv_process.specs.declared.frames.Frame.{Frame}
-use Rattle.sv_process.specs.declared.frames.Frame.TheVariants as frame
-use Rattle.sv_process.specs.Calls.{call_in, called_at, end_at, end_of_call, end_of_form, end_of_routine, return_of}
-use Rattle.sv_process.specs.Frames.{to_do, rest_at, turn_at, turns_of, turns_at, elements_at, put_of, put_at, children_of, children_at, todos_in, todos_of, is_more, IsSettled, IsFirst}
+use Rattle.sv_stack.specs.declared.frames.Frame.{Frame}
+use Rattle.sv_stack.specs.declared.frames.Frame.TheVariants as frame
+use Rattle.sv_stack.specs.Calls.{call_in, called_at, end_at, end_of_call, end_of_form, end_of_routine, return_of}
+use Rattle.sv_stack.specs.Frames.{to_do, rest_at, turn_at, turns_of, turns_at, elements_at, put_of, put_at, children_of, children_at, todos_in, todos_of, is_more, IsSettled, IsFirst}
 
 some_same : {a b : Frame} → Some a ≡ Some b → a ≡ b
 some_same h = cc

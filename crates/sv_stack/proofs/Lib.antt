@@ -1,0 +1,3 @@
+pub mod EndLemmas
+pub mod FrameLemmas
+pub mod DepthLemmas
