@@ -5,10 +5,10 @@ use Rattle.std.proofs.lemmas.Bool.Decides.{nat_tests}
 use Rattle.std.proofs.lemmas.List.Sums.{sum_by-cons}
 use Rattle.sv_flat.specs.declared.design.Parts.{Parts}
 use Rattle.svsim.specs.declared.front.FrontFault.{FrontFault}
-use Rattle.svsim.specs.declared.words.Limits.{Limits}
+use Rattle.sv_words.specs.declared.words.Limits.{Limits}
 use Rattle.svsim.specs.Said.{Said, SaysOn, Has, IsTurn, refused, runs, Says, usage, too_long, on_texts, line, refusal, said_of_run, run_of}
 use Rattle.svsim.specs.Source.{bytes_of}
-use Rattle.svsim.specs.Words.{Asked, asked}
+use Rattle.sv_words.specs.Words.{Asked, asked}
 use Rattle.svsim.proofs.FaultLemmas.{one_fault, fault_or_design}
 use Rattle.svsim.proofs.SourceLemmas.{one_design}
 

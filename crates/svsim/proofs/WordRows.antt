@@ -2,7 +2,7 @@
 use Rattle.std.proofs.Common.{◌≡◌, [], ◌∷◌, Some, None, refl}
 use Rattle.std.specs.Prelude.{codes}
 use Rattle.svsim.specs.Said.{limits, name_of}
-use Rattle.svsim.specs.Words.{asked, choice_list, number_within}
+use Rattle.sv_words.specs.Words.{asked, choice_list, number_within}
 
 -- `run a.sv b.sv --steps 1099511627776`
 two_files : asked limits (codes "run" ∷ codes "a.sv" ∷ codes "b.sv" ∷ codes "--steps" ∷ codes "1099511627776" ∷ [])

@@ -12,11 +12,11 @@ use Rattle.svsim.specs.declared.answer.FetchFault.TheVariants as fetch
 use Rattle.svsim.specs.declared.run.Closing.{Closing}
 use Rattle.svsim.specs.declared.run.Cut.{Cut}
 use Rattle.svsim.specs.declared.run.Cut.TheVariants.{LogFailed, Memory}
-use Rattle.svsim.specs.declared.words.Limits.{Limits}
+use Rattle.sv_words.specs.declared.words.Limits.{Limits}
 use Rattle.svsim.specs.Said.{Said, Files, Has, IsTurn, Says, IsLine, line, run_of}
 use Rattle.svsim.specs.Simulated.{NoFault, IsPrefixOfRecords, AreRecords, IsAllSaid, Awaits, NamesFile}
 use Rattle.svsim.specs.Source.{bytes_of, contents, IsSource}
-use Rattle.svsim.specs.Words.{Asked}
+use Rattle.sv_words.specs.Words.{Asked}
 
 -- what is seen of a shelf over a call: its files, its faults before and after, and the name for which it failed last
 pub record ShelfSeen : Type 0 where

@@ -5,9 +5,9 @@ use Rattle.sv_io.specs.Outside.{appended}
 use mathlib.Core.List.{IsPrefix}
 use Rattle.sv_flat.specs.Config.{Config, Record}
 use Rattle.sv_flat.specs.Directed.{log_of}
-use Rattle.svsim.specs.declared.words.Limits.{Limits}
+use Rattle.sv_words.specs.declared.words.Limits.{Limits}
 use Rattle.svsim.specs.Said.{Said, Files, IsTurn, Says, Runs, line, IsPrefixOfLine}
-use Rattle.svsim.specs.Words.{Asked, asked}
+use Rattle.sv_words.specs.Words.{Asked, asked}
 
 -- the words, as texts
 abbrev pub texts : Vec (String Global) Global → List (List ℕ)

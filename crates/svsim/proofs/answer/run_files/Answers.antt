@@ -8,7 +8,7 @@ use Rattle.svsim.specs.Answered.{Fetched, shelf_seen}
 use Rattle.svsim.specs.Said.{Has, on_texts, too_long, runs, said_of_run, run_of, line}
 use Rattle.svsim.specs.Simulated.{IsAllSaid, not_read}
 use Rattle.svsim.specs.Source.{bytes_of, contents}
-use Rattle.svsim.specs.Words.{asked_for}
+use Rattle.sv_words.specs.Words.{asked_for}
 use Rattle.svsim.proofs.SaidLemmas.{if_ok_only, all_of}
 use Rattle.svsim.proofs.answer.run_files.Goals as goal
 

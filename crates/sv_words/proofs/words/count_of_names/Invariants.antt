@@ -2,8 +2,8 @@ use Rattle.std.proofs.Common.{ℕ, ◌≡◌, ◌+◌, List, drop}
 use Rattle.std.specs.Prelude.{String, map, string_bytes}
 use Rattle.std.specs.Global.{Global}
 use Rattle.std.specs.List.{prefix_len}
-use Rattle.svsim.specs.Words.{is_name}
-use Rattle.svsim.proofs.words.count_of_names.Given as goal
+use Rattle.sv_words.specs.Words.{is_name}
+use Rattle.sv_words.proofs.words.count_of_names.Given as goal
 
 -- how many names words begin with
 abbrev names : List (String Global) → ℕ

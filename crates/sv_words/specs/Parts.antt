@@ -1,7 +1,7 @@
 -- Parts of a list of choices that are still to be read.
 use Rattle.std.specs.Prelude.{ℕ, ◌+◌, Bool, not, ◌==◌, List, [], Option, None, Some, length}
 use Rattle.std.specs.Borrow.{Bor}
-use Rattle.svsim.specs.Words.{between_commas}
+use Rattle.sv_words.specs.Words.{between_commas}
 
 -- the parts of what is left behind a comma
 abbrev pub parts_left : Option (Bor (List ℕ)) → List (List ℕ)

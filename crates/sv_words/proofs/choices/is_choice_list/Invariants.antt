@@ -1,8 +1,8 @@
 use Rattle.std.proofs.Common.{ℕ, ◌≡◌, ◌≤◌, ◌+◌, List, length}
 use Rattle.std.specs.Prelude.{option_map}
-use Rattle.svsim.specs.Words.{choices_of, between_commas}
-use Rattle.svsim.specs.Parts.{parts_left, bytes_left}
-use Rattle.svsim.proofs.choices.is_choice_list.Given as goal
+use Rattle.sv_words.specs.Words.{choices_of, between_commas}
+use Rattle.sv_words.specs.Parts.{parts_left, bytes_left}
+use Rattle.sv_words.proofs.choices.is_choice_list.Given as goal
 
 abbrev pub invariant-loop-left : goal.invariant-loop-left
 invariant-loop-left l = record {

@@ -1,9 +1,9 @@
 use Rattle.std.proofs.Common.{arith}
 use Rattle.std.specs.Prelude.{slice_index_or}
 use Rattle.std.proofs.lemmas.List.Sums.{AllPass-from_list_all}
-use Rattle.svsim.specs.Digits.{is_digit}
-use Rattle.svsim.proofs.DigitLemmas.{ten_most, digit_at_most}
-use Rattle.svsim.proofs.digits.number_of.Goals as goal
+use Rattle.sv_words.specs.Digits.{is_digit}
+use Rattle.sv_words.proofs.DigitLemmas.{ten_most, digit_at_most}
+use Rattle.sv_words.proofs.digits.number_of.Goals as goal
 
 pub overflow_mul-number : goal.overflow_mul-number
 overflow_mul-number c = let most = ten_most c.loop-d.d-index 19 (omega (arith, c.requires.few, c.loop-d-test.true)) in omega (arith, most, c.loop-d.invariant.small)

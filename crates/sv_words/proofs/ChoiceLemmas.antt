@@ -4,8 +4,8 @@ use Rattle.std.specs.Prelude.{option_map, ◌^◌, ◌==◌}
 use Rattle.std.specs.List.{prefix_len}
 use Rattle.std.proofs.lemmas.List.Sums.{prefix_len-le-length}
 use Rattle.std.proofs.lemmas.List.{append_assoc, take_rest}
-use Rattle.svsim.specs.Words.{between_commas, with_first, choices_of, number_within}
-use Rattle.svsim.specs.Parts.{is_no_comma}
+use Rattle.sv_words.specs.Words.{between_commas, with_first, choices_of, number_within}
+use Rattle.sv_words.specs.Parts.{is_no_comma}
 
 pub within : (bs : List ℕ) → prefix_len is_no_comma bs ≤ length bs
 within bs = prefix_len-le-length is_no_comma bs

@@ -1,7 +1,7 @@
 // Numbers as decimal digits.
 ghost use Rattle.std.specs.Prelude.{◌≡◌, ◌<◌, ◌≤◌, ◌^◌, length, true};
 ghost use Rattle.std.specs.List.{list_all};
-ghost use Rattle.svsim.specs.Digits.{is_digit, is_number, number_of};
+ghost use Rattle.sv_words.specs.Digits.{is_digit, is_number, number_of};
 
 /// A decimal digit.
 fn is_digit(b: u8) -> bool

@@ -2,11 +2,11 @@
 use Rattle.std.specs.Prelude.{ℕ, ◌^◌, ◌-◌, Bool, false, not, ◌==◌, ◌&&◌, List, [], ◌∷◌, Option, None, Some, nat_le, nat_lt, length, take, drop, map, codes, option_and_then, option_map, string_bytes, if◌then◌else◌}
 use Rattle.std.specs.List.{prefix_len}
 use Rattle.std.specs.Str.{bytes_eq}
-use Rattle.svsim.specs.Digits.{is_number, number_of}
-use Rattle.svsim.specs.declared.words.Limits.{Limits}
-use Rattle.svsim.specs.declared.words.Simulation.{Simulation}
-use Rattle.svsim.specs.declared.words.Task.{Task}
-use Rattle.svsim.specs.declared.words.Task.TheVariants.{Run}
+use Rattle.sv_words.specs.Digits.{is_number, number_of}
+use Rattle.sv_words.specs.declared.words.Limits.{Limits}
+use Rattle.sv_words.specs.declared.words.Simulation.{Simulation}
+use Rattle.sv_words.specs.declared.words.Task.{Task}
+use Rattle.sv_words.specs.declared.words.Task.TheVariants.{Run}
 
 -- a run of the design of these files, under the unit that is named or under all that are nowhere instantiated, with the numbers of the Active list,
 -- and at most so many steps

@@ -1,8 +1,8 @@
 // Lists of choices, as they stand on the command line.
 ghost use Rattle.std.specs.Prelude.{◌≡◌, ◌<◌, ◌≤◌, ◌^◌, ◌-◌, ◌∷◌, IfOk, IfSome, Some, true, is_some, length};
-ghost use Rattle.svsim.specs.Words.{choice_list, number_within, between_commas};
+ghost use Rattle.sv_words.specs.Words.{choice_list, number_within, between_commas};
 ghost use Rattle.std.specs.List.{prefix_len};
-ghost use Rattle.svsim.specs.Parts.{is_no_comma, parts_left};
+ghost use Rattle.sv_words.specs.Parts.{is_no_comma, parts_left};
 
 use crate::digits::{is_number, number_of};
 use std::alloc::{AllocError, Global};

@@ -1,7 +1,7 @@
 -- Numbers of digits.
 use Rattle.std.proofs.Common.{ℕ, ◌≡◌, ◌^◌, ◌≤◌, zero, suc, inl, inr, ◌⊎◌, pow-suc, ap, arith, true}
 use Rattle.std.proofs.lemmas.Bool.Decides.{nat_tests}
-use Rattle.svsim.specs.Digits.{is_digit}
+use Rattle.sv_words.specs.Digits.{is_digit}
 
 at_most : (n m : ℕ) → n ≤ suc m → (n ≤ m) ⊎ (n ≡ suc m)
 at_most n m h = grind arith

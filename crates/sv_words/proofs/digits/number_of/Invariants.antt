@@ -1,6 +1,6 @@
 use Rattle.std.proofs.Common.{◌≡◌, ◌<◌, ◌^◌, drop}
-use Rattle.svsim.specs.Digits.{number_behind}
-use Rattle.svsim.proofs.digits.number_of.Given as goal
+use Rattle.sv_words.specs.Digits.{number_behind}
+use Rattle.sv_words.proofs.digits.number_of.Given as goal
 
 abbrev pub invariant-loop-d : goal.invariant-loop-d
 invariant-loop-d l = record {
