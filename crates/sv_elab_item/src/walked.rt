@@ -15,7 +15,7 @@ use std::alloc::Global;
 use sv_elab_object::known_stand;
 use sv_elab_parts::{SoFar, guarded_adding};
 use sv_elab_plain::sv_elab_connect::{connections_fit, connections_stand};
-use sv_elab_plain::{add_links, add_ports, default_in, one_default};
+use sv_elab_plain::{add_links, add_ports, default_in, inst_of, one_default};
 use sv_elab_unit::{Units, port_names, ports_of};
 use sv_elab_walk::{Inst, Seen, Walked, around_unit, seen_in};
 use sv_names::{Around, Checked, Refusal, answer, same_bytes};
