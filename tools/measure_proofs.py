@@ -1,9 +1,9 @@
 #!/usr/bin/env python3
 """Measures the processor minutes that the proofs of each crate take, from nothing.
 
-    tools/measure_proofs.py [NAME..]
+    tools/measure_proofs.py
 
-Runs `rt ci --anew NAME..` and then `.ci/wrong_bodies NAME..` (for all crates where no name is given) on a copy of crates.txt, HANDLES, .ci/ and
+Runs `rt ci` and then `.ci/wrong_bodies` on a copy of crates.txt, HANDLES, .ci/ and
 crates/, without touching the checkout, and adds up the processor time of each process that they start: for the proof of a crate's library, of its
 tests, of its must-fail edits with the check that they begin with, and of the checks of its wrong bodies. What compiles and runs programs and
 tests is counted with the crate's library and tests. Prints one line of a table a crate, in the order of crates.txt, and the whole, and the
@@ -13,7 +13,6 @@ import os
 import re
 import shutil
 import subprocess
-import sys
 import tempfile
 import time
 from collections import defaultdict
@@ -120,8 +119,8 @@ def main():
             shutil.copytree(TOP / part, folder / part, ignore=lambda at, _: ['out'] if Path(at).parent.name == 'crates' else [])
         subprocess.run(['git', 'init', '-q', name], check=True)
         said, sums = [], defaultdict(float)
-        for command in [['rt', 'ci', '--anew'], ['.ci/wrong_bodies']]:
-            line, found = measured(folder, [*command, *sys.argv[1:]])
+        for command in [['rt', 'ci'], ['.ci/wrong_bodies']]:
+            line, found = measured(folder, command)
             said.append(line)
             sums.update(found)
         shutil.copy2(folder / 'log', Path(tempfile.gettempdir(), 'measure_proofs.log'))
