@@ -57,7 +57,7 @@ fn first_values(alloc: Global, design: &Design, entered: Entered) -> Result<Vec<
     match entered {
         Entered::Block(at) => of_block(alloc, design, at),
         Entered::Index => {
-            let mut values = Vec::new(alloc);
+            let mut values = Vec::with_capacity(alloc, 1)?;
             values.push(first_of(alloc, INDEX))?;
             Ok(values)
         }
@@ -103,7 +103,7 @@ fn of_variables(alloc: Global, variables: &[Declared]) -> Result<Vec<Val>, NoMem
     requires { AllByRecursion IsBuiltType (types_of variables.now) }
     ensures { IfOk result (λ vs. vs.items ≡ map first_value (types_of variables.now)) }
 {
-    let mut values = Vec::new(alloc);
+    let mut values = Vec::with_capacity(alloc, variables.len())?;
     add_variables(alloc, variables, &mut values)?;
     Ok(values)
 }
@@ -131,7 +131,7 @@ fn of_types(alloc: Global, types: &[DataType]) -> Result<Vec<Val>, NoMemory>
     requires { AllByRecursion IsBuiltType types.now }
     ensures { IfOk result (λ vs. vs.items ≡ map first_value types.now) }
 {
-    let mut values = Vec::new(alloc);
+    let mut values = Vec::with_capacity(alloc, types.len())?;
     add_types(alloc, types, &mut values)?;
     Ok(values)
 }
