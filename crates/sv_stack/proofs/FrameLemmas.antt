@@ -29,7 +29,7 @@ some_same : {a b : Frame} → Some a ≡ Some b → a ≡ b
 some_same h = cc
 
 -- a list that is not empty has a last element
-last_of : (x : Frame) (xs : List Frame) → (front : List Frame) × (last : Frame) × (x ∷ xs ≡ front ++ last ∷ [])
+pub last_of : (x : Frame) (xs : List Frame) → (front : List Frame) × (last : Frame) × (x ∷ xs ≡ front ++ last ∷ [])
 last_of x [] = ([], x, refl)
 last_of x (y ∷ ys) = let r = last_of y ys in (x ∷ r.0, r.1, ap (λ u. x ∷ u) r.2)
 

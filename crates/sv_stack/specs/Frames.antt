@@ -105,6 +105,26 @@ abbrev pub is_more : List Todo → Bool
 is_more [] = false
 is_more (t ∷ ts) = true
 
+-- whether an entry is the rest of a routine
+abbrev pub is_rest : Frame → Bool
+is_rest (frame.Rest p scope) = true
+is_rest f = false
+
+-- the rest from the next place on; all else as it is
+abbrev pub passed_in : Frame → Frame
+passed_in (frame.Rest p scope) = frame.Rest (record { routine = p.routine; place = p.place + 1 }) scope
+passed_in f = f
+
+-- whether the rest of a routine comes first
+abbrev pub begins_with_rest : List Frame → Bool
+begins_with_rest [] = false
+begins_with_rest (f ∷ fs) = is_rest f
+
+-- and from its next place on
+abbrev pub passed : List Frame → List Frame
+passed [] = []
+passed (f ∷ fs) = passed_in f ∷ fs
+
 -- something is left of the first entry
 abbrev pub IsSettled : Parts → List Frame → Type 0
 IsSettled d [] = Unit {0}

@@ -9,7 +9,7 @@ ghost use Rattle.sv_built.specs.Positions.{stmt_at};
 ghost use Rattle.sv_flat.specs.Statements.Jumps.{open_calls};
 ghost use Rattle.sv_stack.specs.declared.frames.Frame.TheVariants.{Rest};
 ghost use Rattle.sv_stack.specs.Calls.{called_at, end_at, end_of_call};
-ghost use Rattle.sv_stack.specs.Frames.{todos_in, todos_of, turn_at, turns_at, elements_at, put_at, children_at, scope_in, ends_in, is_end, is_more, IsFirst, IsSettled};
+ghost use Rattle.sv_stack.specs.Frames.{todos_in, todos_of, turn_at, turns_at, elements_at, put_at, children_at, scope_in, ends_in, is_end, is_more, is_rest, passed_in, begins_with_rest, passed, IsFirst, IsSettled};
 
 use crate::routines::{call_of, subroutine_of};
 use smallvec::SmallVec;
@@ -236,6 +236,20 @@ impl Frames {
         last_of(&self.stack)
     }
 
+    /// Moves on to the next place, where the entry that comes first is the rest of a routine. Memory is wanting where that place has no number.
+    fn pass_place(&mut self) -> Result<bool, NoMemory>
+        ensures passed { OnOk result (self.new ≡ passed self.old) }
+        ensures rest { IfOk result (λ b. b ≡ begins_with_rest self.old) }
+    {
+        let Some(last) = self.stack.len().checked_sub(1) else {
+            return Ok(false);
+        };
+        match self.stack.get_mut(last) {
+            Some(frame) => pass(frame),
+            None => Ok(false),
+        }
+    }
+
     /// Leaves what comes first.
     pub fn leave_first(&mut self, design: &Design) -> Result<(), NoMemory>
         ensures { OnOk result (todos_of design.now self.new ≡ drop 1 (todos_of design.now self.old)) }
@@ -445,6 +459,24 @@ pub fn scope_in(frame: &Frame) -> Option<Name>
     }
 }
 
+/// Moves the rest of a routine on to its next place, and tells whether it is one. Memory is wanting where that place has no number.
+fn pass(frame: &mut Frame) -> Result<bool, NoMemory>
+    ensures passed { OnOk result (frame.new ≡ passed_in frame.old) }
+    ensures rest { IfOk result (λ b. b ≡ is_rest frame.old) }
+    ensures ends { ends_in frame.new ≡ ends_in frame.old }
+{
+    match frame {
+        Frame::Rest { at, .. } => {
+            let Some(place) = at.place.checked_add(1) else {
+                return Err(NoMemory::Memory);
+            };
+            at.place = place;
+            Ok(true)
+        }
+        _ => Ok(false),
+    }
+}
+
 /// Leaves what comes first. Memory is wanting where no number is left for the next place.
 #[tactic(auto, using(crate::proofs::FrameLemmas::left_rest, crate::proofs::FrameLemmas::left_loop, crate::proofs::FrameLemmas::left_turns, crate::proofs::FrameLemmas::left_elements, crate::proofs::FrameLemmas::left_put, crate::proofs::FrameLemmas::left_children, crate::proofs::FrameLemmas::left_called, crate::proofs::FrameLemmas::left_end))]
 fn leave_top(frames: &mut Frames, design: &Design) -> Result<(), NoMemory>
@@ -452,20 +484,9 @@ fn leave_top(frames: &mut Frames, design: &Design) -> Result<(), NoMemory>
     ensures { OnOk result (todos_of design.now frames.new ≡ drop 1 (todos_of design.now frames.old)) }
 {
     let _ = design;
-    let Some(frame) = frames.pop() else {
+    if frames.pass_place()? {
         return Ok(());
-    };
-    match &frame {
-        Frame::Rest { at, scope } => {
-            let Some(place) = at.place.checked_add(1) else {
-                return Err(NoMemory::Memory);
-            };
-            let routine = at.routine;
-            frames.push(Frame::Rest {
-                at: Position { routine, place },
-                scope: *scope,
-            })
-        }
-        _ => Ok(()),
     }
+    let _ = frames.pop();
+    Ok(())
 }
