@@ -22,7 +22,7 @@ content_none (Field p t e) h v = absurd h
 content_none (Static r m) h v = absurd h
 content_none e h v = refl
 
-or_false : (b : Bool) → (b || false) ≡ b
+pub or_false : (b : Bool) → (b || false) ≡ b
 or_false true = refl
 or_false false = refl
 
@@ -30,7 +30,7 @@ and_true : (b : Bool) → (b && true) ≡ b
 and_true true = refl
 and_true false = refl
 
-no_trigger : (x y : Valued) → false ≡ both_make edge.Trigger x y
+pub no_trigger : (x y : Valued) → false ≡ both_make edge.Trigger x y
 no_trigger (Ok x) (Ok y) = refl
 no_trigger (Ok x) (Err k) = refl
 no_trigger (Err k) y = refl

@@ -8,3 +8,4 @@ pub mod HeardLaws
 pub mod TryLaws
 pub mod SenseLaws
 pub mod ChangeLaws
+pub mod TransitionLaws

@@ -4,5 +4,6 @@ pub mod Scoped
 -- ---- who is tried, and who is woken
 pub mod Watchers
 pub mod Wakes
+pub mod Told
 -- ---- the whole
 pub mod Sensed

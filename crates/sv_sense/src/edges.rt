@@ -32,16 +32,21 @@ fn falls(before: Sym, after: Sym) -> bool
     }
 }
 
-/// The least bit of a value.
+/// The least bit of a vector.
 #[tactic(auto, using(crate::proofs::EdgeLaws::least_is))]
+fn least_bit(bits: &Bits) -> Sym
+    ensures { result ≡ woken.least_symbol (val.Bits bits.now) }
+{
+    let _width = bits.width();
+    bits.bit(0)
+}
+
+/// The least bit of a value.
 fn least_symbol(value: &Val) -> Sym
     ensures { result ≡ woken.least_symbol value.now }
 {
     match value {
-        Val::Bits(bits) => {
-            let _width = bits.width();
-            bits.bit(0)
-        }
+        Val::Bits(bits) => least_bit(bits),
         Val::Text(_) => Sym::X,
         Val::Object(_) => Sym::X,
         Val::Event(_) => Sym::X,
@@ -148,6 +153,18 @@ fn same_values(before: &Val, after: &Val) -> bool
         Val::Text(text) => same_as_text(text.bytes(), before, after),
         Val::Object(_) => same_references(before, after),
         Val::Event(_) => same_references(before, after),
+    }
+}
+
+/// Whether two vectors make an edge.
+pub(crate) fn vectors_make(edge: Edge, before: &Bits, after: &Bits) -> bool
+    ensures { result ≡ woken.makes edge (val.Bits before.now) (val.Bits after.now) }
+{
+    match edge {
+        Edge::Change => !same_bits(before, after),
+        Edge::Posedge => rises(least_bit(before), least_bit(after)),
+        Edge::Negedge => falls(least_bit(before), least_bit(after)),
+        Edge::Trigger => false,
     }
 }
 

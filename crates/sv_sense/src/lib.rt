@@ -6,6 +6,7 @@
 //! - `watchers` has processes by number: those that watch an object, or variables of activations.
 //! - `register` puts a process among the watchers of objects, and among those of variables.
 //! - `waiter` has what a process waits for, with the scope in which it sees it.
+//! - `transition` has a change of a vector, and says what it alone tells of what is waited for; `trial` is a change for which processes are tried.
 //! - `tries` tries those whom a change may wake, each in its own scope.
 //! - `sense` has for what each process waits, and wakes those whom a change wakes.
 #![tactic(auto)]
@@ -16,6 +17,8 @@ mod objects;
 mod register;
 mod scoped;
 mod sense;
+mod transition;
+mod trial;
 mod tries;
 mod waiter;
 mod watchers;

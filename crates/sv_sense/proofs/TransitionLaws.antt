@@ -1,0 +1,102 @@
+-- What a change of a vector tells.
+use Rattle.std.proofs.Common.{◌≡◌, ◌≢◌, ℕ, Bool, true, false, Option, Ok, refl, ap, sym, ◌∙◌, subst, length}
+use Rattle.std.specs.Prelude.{◌==◌, if◌then◌else◌, IfSome}
+use Rattle.std.proofs.lemmas.Bool.{eq-eqb}
+use Rattle.sv_value.specs.declared.number.ObjId.{ObjId}
+use Rattle.sv_value.specs.declared.place.Place.{Place}
+use Rattle.sv_value.specs.declared.val.Integral.{Integral}
+use Rattle.sv_value.specs.declared.val.Plain.TheVariants as plain
+use Rattle.sv_value.specs.declared.val.Val.{Val}
+use Rattle.sv_value.specs.declared.val.Val.TheVariants as val
+use Rattle.sv_value.specs.Vector.{Vector, vector}
+use Rattle.sv_flat.specs.declared.object.DataType.TheVariants as type
+use Rattle.sv_flat.specs.declared.process.Edge.{Edge}
+use Rattle.sv_flat.specs.declared.process.Edge.TheVariants as edge
+use Rattle.sv_flat.specs.Expr.{Expr, Object}
+use Rattle.sv_flat.specs.Eval.{fitted, in_context, value_of}
+use Rattle.sv_flat.specs.State.{Name, View, value_at}
+use Rattle.sv_flat.specs.Woken.{Changed, fired, both_make, makes}
+use Rattle.sv_store.specs.declared.change.Overwritten.{Overwritten}
+use Rattle.sv_store.specs.Overwrites.{object_before, value_before}
+use Rattle.sv_assign.specs.declared.seen.Before.{Before}
+use Rattle.sv_assign.specs.Seen.{Change, Of_object, change_in, view_before, view_in}
+use Rattle.sv_eval.proofs.VectorLaws.{own_context}
+use Rattle.sv_sense.specs.declared.transition.Transition.{Transition}
+use Rattle.sv_sense.specs.Told.{IsSeen, IsTold}
+use Rattle.sv_sense.proofs.ChangeLaws.{object_changed}
+use Rattle.sv_sense.proofs.EdgeLaws.{both_make_self}
+use Rattle.sv_sense.proofs.FireLaws.{or_false, no_trigger}
+
+-- ---- the name of an object
+
+-- an object with a vector
+abbrev pub whole : Place → ObjId → Integral → Expr
+whole at o t = Object at o (type.Plain (plain.Integral t))
+
+-- it fires by its values alone
+whole_fires : (g : Edge) (at : Place) (o : ObjId) (t : Integral) (old new : View)
+    → fired g (whole at o t) Changed old new ≡ both_make g (value_of (whole at o t) old) (value_of (whole at o t) new)
+whole_fires edge.Change at o t old new = or_false (both_make edge.Change (value_of (whole at o t) old) (value_of (whole at o t) new))
+whole_fires edge.Posedge at o t old new = refl
+whole_fires edge.Negedge at o t old new = refl
+whole_fires edge.Trigger at o t old new = no_trigger (value_of (whole at o t) old) (value_of (whole at o t) new)
+
+-- one that has not changed
+pub other_object : (t : Transition) (old new : View) → IsSeen t old new → (o : ObjId) → o.0 ≢ t.object.0
+    → (g : Edge) (at : Place) (ty : Integral) → false ≡ fired g (whole at o ty) Changed old new
+other_object t old new h o n g at ty =
+    let same : value_of (whole at o ty) old ≡ value_of (whole at o ty) new = ap (λ (x : Val). Ok (fitted ty.width ty.signed x)) (h.others o n) in
+    sym (whole_fires g at o ty old new ∙ ap (λ x. both_make g x (value_of (whole at o ty) new)) same ∙ both_make_self g (value_of (whole at o ty) new))
+
+-- a vector in a context of its own width has the same symbols
+in_own_width : (v : Vector) (w : ℕ) (s : Bool) → length v.symbols ≡ w → in_context w s v ≡ vector s v.symbols
+in_own_width v w s width = sym (own_context (vector s v.symbols) w s width refl)
+
+-- an edge is one of the symbols
+makes_by_symbols : (g : Edge) (v u : Vector) (s : Bool) → makes g (val.Bits (vector s v.symbols)) (val.Bits (vector s u.symbols)) ≡ makes g (val.Bits v) (val.Bits u)
+makes_by_symbols edge.Change v u s = refl
+makes_by_symbols edge.Posedge v u s = refl
+makes_by_symbols edge.Negedge v u s = refl
+makes_by_symbols edge.Trigger v u s = refl
+
+-- the one that has changed
+pub same_object : (t : Transition) (old new : View) → IsSeen t old new → (o : ObjId) → o.0 ≡ t.object.0
+    → (g : Edge) (at : Place) (ty : Integral) → length t.before.symbols ≡ ty.width → length t.after.symbols ≡ ty.width
+    → makes g (val.Bits t.before) (val.Bits t.after) ≡ fired g (whole at o ty) Changed old new
+same_object t old new h o e g at ty b a =
+    let here : t.object ≡ o = λ i. record { 0 = sym e i } in
+    let w = ty.width in
+    let s = ty.signed in
+    let was : val.Bits (vector s t.before.symbols) ≡ fitted w s (old.object o 0) =
+    ap val.Bits (sym (in_own_width t.before w s b)) ∙ ap (fitted w s) (sym h.before ∙ ap (λ (p : ObjId). old.object p 0) here) in
+    let is : val.Bits (vector s t.after.symbols) ≡ fitted w s (new.object o 0) =
+    ap val.Bits (sym (in_own_width t.after w s a)) ∙ ap (fitted w s) (sym h.after ∙ ap (λ (p : ObjId). new.object p 0) here) in
+    sym (makes_by_symbols g t.before t.after s) ∙ (λ i. makes g (was i) (is i)) ∙ sym (whole_fires g at o ty old new)
+
+-- ---- what has changed
+
+seen_of : (w : Overwritten) (b : Before) (t : Transition) → t.object ≡ w.object → val.Bits t.before ≡ value_before w b.store.now 0 → val.Bits t.after ≡ value_at b.store.now w.object 0
+    → (scope : Option Name)
+    → IsSeen t (view_before (Of_object w) b.store.now b.activations.now.activations b.time b.unit scope) (view_in b.store.now b.activations.now.activations b.time b.unit scope)
+seen_of w b t e before after scope =
+    let s = b.store.now in
+    let itself : (w.object.0 == w.object.0) ≡ true = eq-eqb w.object.0 w.object.0 refl in
+    let changed = object_changed w s b.activations.now.activations b.time b.unit scope in
+    record {
+      before =
+          ap (λ (o : ObjId). object_before w s o 0) e
+          ∙ ap (λ (c : Bool). if c then value_before w s 0 else value_at s w.object 0) itself
+          ∙ sym before;
+      after = ap (λ (o : ObjId). value_at s o 0) e ∙ sym after;
+      others = λ o n. ap (λ (f : ℕ → Val). f 0) (changed.object o (λ z. n (z ∙ ap (λ (p : ObjId). p.0) (sym e))));
+    }
+
+pub told : (b : Before) (w : Overwritten) (r : Option Transition) → change_in b.change.now ≡ Of_object w → IfSome r (λ t. t.object ≡ w.object)
+    → IfSome r (λ t. val.Bits t.before ≡ value_before w b.store.now 0) → IfSome r (λ t. val.Bits t.after ≡ value_at b.store.now w.object 0) → IsTold r b
+told b w r k e before after t is =
+    let here = λ (P : Transition → Type 0) (h : IfSome r P). subst (λ (o : Option Transition). IfSome o P) is h in
+    subst
+    (λ (c : Change). (scope : Option Name)
+    → IsSeen t (view_before c b.store.now b.activations.now.activations b.time b.unit scope) (view_in b.store.now b.activations.now.activations b.time b.unit scope))
+    (sym k) (seen_of w b t (here (λ t. t.object ≡ w.object) e) (here (λ t. val.Bits t.before ≡ value_before w b.store.now 0) before)
+    (here (λ t. val.Bits t.after ≡ value_at b.store.now w.object 0) after))

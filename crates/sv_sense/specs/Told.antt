@@ -1,0 +1,18 @@
+-- A change of a vector, and what it tells of what processes wait for (IEEE 1800-2017, 9.4.2).
+use Rattle.std.specs.Prelude.{◌≡◌, ◌≢◌, Option, Some}
+use Rattle.sv_value.specs.declared.number.ObjId.{ObjId}
+use Rattle.sv_value.specs.declared.val.Val.TheVariants.{Bits}
+use Rattle.sv_flat.specs.State.{Name, View}
+use Rattle.sv_assign.specs.declared.seen.Before.{Before}
+use Rattle.sv_sense.specs.declared.transition.Transition.{Transition}
+use Rattle.sv_sense.specs.Wakes.{scenes_before, scenes_after}
+
+-- the object has the one vector before, and the other one after; what no array is has not changed elsewhere
+pub record IsSeen (t : Transition) (old new : View) : Type 0 where
+  pub before : old.object t.object 0 ≡ Bits t.before
+  pub after : new.object t.object 0 ≡ Bits t.after
+  pub others : (o : ObjId) → o.0 ≢ t.object.0 → old.object o 0 ≡ new.object o 0
+
+-- so it is seen from each scope, if it is told
+abbrev pub IsTold : Option Transition → Before → Type 0
+IsTold r b = (t : Transition) → r ≡ Some t → (scope : Option Name) → IsSeen t (scenes_before b scope) (scenes_after b scope)
