@@ -9,3 +9,4 @@ pub mod TryLaws
 pub mod SenseLaws
 pub mod ChangeLaws
 pub mod TransitionLaws
+pub mod PartLaws

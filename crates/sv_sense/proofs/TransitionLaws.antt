@@ -1,6 +1,6 @@
 -- What a change of a vector tells.
-use Rattle.std.proofs.Common.{◌≡◌, ◌≢◌, ℕ, Bool, true, false, Option, Ok, refl, ap, sym, ◌∙◌, subst, length}
-use Rattle.std.specs.Prelude.{◌==◌, if◌then◌else◌, IfSome}
+use Rattle.std.proofs.Common.{◌≡◌, ◌≢◌, ℕ, Bool, true, false, Option, None, Some, Ok, refl, ap, sym, ◌∙◌, subst, length}
+use Rattle.std.specs.Prelude.{◌==◌, ◌||◌, if◌then◌else◌, IfSome}
 use Rattle.std.proofs.lemmas.Bool.{eq-eqb}
 use Rattle.sv_value.specs.declared.number.ObjId.{ObjId}
 use Rattle.sv_value.specs.declared.place.Place.{Place}
@@ -8,6 +8,7 @@ use Rattle.sv_value.specs.declared.val.Integral.{Integral}
 use Rattle.sv_value.specs.declared.val.Plain.TheVariants as plain
 use Rattle.sv_value.specs.declared.val.Val.{Val}
 use Rattle.sv_value.specs.declared.val.Val.TheVariants as val
+use Rattle.sv_value.specs.Containers.{Container}
 use Rattle.sv_value.specs.Vector.{Vector, vector}
 use Rattle.sv_flat.specs.declared.object.DataType.TheVariants as type
 use Rattle.sv_flat.specs.declared.process.Edge.{Edge}
@@ -15,7 +16,7 @@ use Rattle.sv_flat.specs.declared.process.Edge.TheVariants as edge
 use Rattle.sv_flat.specs.Expr.{Expr, Object}
 use Rattle.sv_flat.specs.Eval.{fitted, in_context, value_of}
 use Rattle.sv_flat.specs.State.{Name, View, value_at}
-use Rattle.sv_flat.specs.Woken.{Changed, fired, both_make, makes}
+use Rattle.sv_flat.specs.Woken.{Changed, fired, both_make, content_of, contents_differ, makes}
 use Rattle.sv_store.specs.declared.change.Overwritten.{Overwritten}
 use Rattle.sv_store.specs.Overwrites.{object_before, value_before}
 use Rattle.sv_assign.specs.declared.seen.Before.{Before}
@@ -33,23 +34,24 @@ use Rattle.sv_sense.proofs.FireLaws.{or_false, no_trigger}
 abbrev pub whole : Place → ObjId → Integral → Expr
 whole at o t = Object at o (type.Plain (plain.Integral t))
 
--- it fires by its values alone
-whole_fires : (g : Edge) (at : Place) (o : ObjId) (t : Integral) (old new : View)
-    → fired g (whole at o t) Changed old new ≡ both_make g (value_of (whole at o t) old) (value_of (whole at o t) new)
-whole_fires edge.Change at o t old new = or_false (both_make edge.Change (value_of (whole at o t) old) (value_of (whole at o t) new))
-whole_fires edge.Posedge at o t old new = refl
-whole_fires edge.Negedge at o t old new = refl
-whole_fires edge.Trigger at o t old new = no_trigger (value_of (whole at o t) old) (value_of (whole at o t) new)
+-- what names no container fires by its values alone
+pub by_values : (g : Edge) (e : Expr) (old new : View) → content_of e old ≡ None → fired g e Changed old new ≡ both_make g (value_of e old) (value_of e new)
+by_values edge.Change e old new h =
+    ap (λ (k : Option Container). both_make edge.Change (value_of e old) (value_of e new) || contents_differ k (content_of e new)) h
+    ∙ or_false (both_make edge.Change (value_of e old) (value_of e new))
+by_values edge.Posedge e old new h = refl
+by_values edge.Negedge e old new h = refl
+by_values edge.Trigger e old new h = no_trigger (value_of e old) (value_of e new)
 
 -- one that has not changed
 pub other_object : (t : Transition) (old new : View) → IsSeen t old new → (o : ObjId) → o.0 ≢ t.object.0
     → (g : Edge) (at : Place) (ty : Integral) → false ≡ fired g (whole at o ty) Changed old new
 other_object t old new h o n g at ty =
     let same : value_of (whole at o ty) old ≡ value_of (whole at o ty) new = ap (λ (x : Val). Ok (fitted ty.width ty.signed x)) (h.others o n) in
-    sym (whole_fires g at o ty old new ∙ ap (λ x. both_make g x (value_of (whole at o ty) new)) same ∙ both_make_self g (value_of (whole at o ty) new))
+    sym (by_values g (whole at o ty) old new refl ∙ ap (λ x. both_make g x (value_of (whole at o ty) new)) same ∙ both_make_self g (value_of (whole at o ty) new))
 
 -- a vector in a context of its own width has the same symbols
-in_own_width : (v : Vector) (w : ℕ) (s : Bool) → length v.symbols ≡ w → in_context w s v ≡ vector s v.symbols
+pub in_own_width : (v : Vector) (w : ℕ) (s : Bool) → length v.symbols ≡ w → in_context w s v ≡ vector s v.symbols
 in_own_width v w s width = sym (own_context (vector s v.symbols) w s width refl)
 
 -- an edge is one of the symbols
@@ -59,19 +61,20 @@ makes_by_symbols edge.Posedge v u s = refl
 makes_by_symbols edge.Negedge v u s = refl
 makes_by_symbols edge.Trigger v u s = refl
 
--- the one that has changed
+-- the vector of the one that has changed, as its name gives it
+pub itself : (x : Val) (v : Vector) (w : ℕ) (s : Bool) → length v.symbols ≡ w → x ≡ val.Bits v → fitted w s x ≡ val.Bits (vector s v.symbols)
+itself x v w s width is = ap (fitted w s) is ∙ ap val.Bits (in_own_width v w s width)
+
+pub at_object : (o p : ObjId) → o.0 ≡ p.0 → (f : ObjId → ℕ → Val) → f o 0 ≡ f p 0
+at_object o p e f = λ i. f (record { 0 = e i }) 0
+
 pub same_object : (t : Transition) (old new : View) → IsSeen t old new → (o : ObjId) → o.0 ≡ t.object.0
     → (g : Edge) (at : Place) (ty : Integral) → length t.before.symbols ≡ ty.width → length t.after.symbols ≡ ty.width
     → makes g (val.Bits t.before) (val.Bits t.after) ≡ fired g (whole at o ty) Changed old new
 same_object t old new h o e g at ty b a =
-    let here : t.object ≡ o = λ i. record { 0 = sym e i } in
-    let w = ty.width in
-    let s = ty.signed in
-    let was : val.Bits (vector s t.before.symbols) ≡ fitted w s (old.object o 0) =
-    ap val.Bits (sym (in_own_width t.before w s b)) ∙ ap (fitted w s) (sym h.before ∙ ap (λ (p : ObjId). old.object p 0) here) in
-    let is : val.Bits (vector s t.after.symbols) ≡ fitted w s (new.object o 0) =
-    ap val.Bits (sym (in_own_width t.after w s a)) ∙ ap (fitted w s) (sym h.after ∙ ap (λ (p : ObjId). new.object p 0) here) in
-    sym (makes_by_symbols g t.before t.after s) ∙ (λ i. makes g (was i) (is i)) ∙ sym (whole_fires g at o ty old new)
+    let was = itself (old.object o 0) t.before ty.width ty.signed b (at_object o t.object e old.object ∙ h.before) in
+    let is = itself (new.object o 0) t.after ty.width ty.signed a (at_object o t.object e new.object ∙ h.after) in
+    sym (by_values g (whole at o ty) old new refl ∙ (λ i. makes g (was i) (is i)) ∙ makes_by_symbols g t.before t.after ty.signed)
 
 -- ---- what has changed
 

@@ -6,7 +6,8 @@
 //! - `watchers` has processes by number: those that watch an object, or variables of activations.
 //! - `register` puts a process among the watchers of objects, and among those of variables.
 //! - `waiter` has what a process waits for, with the scope in which it sees it.
-//! - `transition` has a change of a vector, and says what it alone tells of what is waited for; `trial` is a change for which processes are tried.
+//! - `transition` has a change of a vector, and `trial` a change for which processes are tried.
+//! - `told` says what a change of a vector alone tells of what is waited for, and `part` what it tells of a part of the vector.
 //! - `tries` tries those whom a change may wake, each in its own scope.
 //! - `sense` has for what each process waits, and wakes those whom a change wakes.
 #![tactic(auto)]
@@ -14,9 +15,11 @@
 mod edges;
 mod fires;
 mod objects;
+mod part;
 mod register;
 mod scoped;
 mod sense;
+mod told;
 mod transition;
 mod trial;
 mod tries;

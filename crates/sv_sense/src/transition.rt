@@ -1,24 +1,14 @@
-// A change of a vector, and what it alone tells of what processes wait for (IEEE 1800-2017, 9.4.2).
+// A change of a vector (IEEE 1800-2017, 9.4.2).
 ghost use Rattle.std.specs.Prelude.{◌≡◌, IfSome};
 ghost use Rattle.sv_value.specs.declared.val.Val.TheVariants.{Bits as bits};
-ghost use Rattle.sv_flat.specs.declared.object.DataType.TheVariants.{Plain as plain_type};
-ghost use Rattle.sv_value.specs.declared.val.Plain.TheVariants.{Integral as integral_type};
-ghost use Rattle.sv_flat.specs.Expr.{Object as named};
-ghost use Rattle.sv_flat.specs.State.{View, value_at};
-ghost use Rattle.sv_flat.specs.Woken as woken;
-ghost use Rattle.sv_flat.specs.Woken.{Changed};
-ghost use Rattle.sv_value.specs.declared.place.Place.{Place as place};
-ghost use Rattle.sv_built.specs.Waits.{control_of, watches_at};
+ghost use Rattle.sv_flat.specs.State.{value_at};
 ghost use Rattle.sv_store.specs.Overwrites.{value_before};
-ghost use Rattle.sv_sense.specs.Told.{IsSeen, IsTold};
+ghost use Rattle.sv_sense.specs.Told.{IsTold};
 
-use crate::edges::vectors_make;
 use std::alloc::Global;
 use sv_assign::{Before, Change};
-use sv_built::{Design, Wait};
-use sv_flat::{DataType, Edge, Expr, ExprForm, Form, Watch};
 use sv_store::{Overwritten, Store};
-use sv_value::{Bits, Integral, ObjId, Plain, Val};
+use sv_value::{Bits, ObjId, Val};
 
 /// A change of a variable that is no array, or of a net, from one vector to another.
 #[derive(Clone, Copy)]
@@ -27,8 +17,6 @@ pub struct Transition {
     pub before: Bits,
     pub after: Bits,
 }
-
-// ---- what has changed
 
 /// A change between two values of an object, where they are vectors.
 fn between(object: ObjId, before: &Val, after: &Val) -> Option<Transition>
@@ -75,101 +63,5 @@ pub(crate) fn transition_of(alloc: Global, before: &Before) -> Option<Transition
             Val::Text(_) | Val::Object(_) | Val::Event(_) => None,
         },
         Change::Variable { .. } => None,
-    }
-}
-
-// ---- what it tells
-
-/// Whether it fires an edge of an object with this type; none where the object has vectors of another width.
-#[tactic(auto, using(crate::proofs::TransitionLaws::other_object, crate::proofs::TransitionLaws::same_object))]
-fn object_fires(transition: &Transition, object: ObjId, ty: Integral, edge: Edge) -> Option<bool>
-    ensures { (at : place) (old new : View) → IsSeen transition.now old new
-        → IfSome result (λ b. b ≡ woken.fired edge (named at object (plain_type (integral_type ty))) Changed old new) }
-{
-    if object.0 != transition.object.0 {
-        return Some(false);
-    }
-    if transition.before.width() != ty.width || transition.after.width() != ty.width {
-        return None;
-    }
-    Some(vectors_make(edge, &transition.before, &transition.after))
-}
-
-/// Whether it fires an edge of an expression; none where the expression is not the name of an object with a vector.
-fn expr_fires(transition: &Transition, expr: &Expr, edge: Edge) -> Option<bool>
-    ensures { (old new : View) → IsSeen transition.now old new
-        → IfSome result (λ b. b ≡ woken.fired edge expr.now Changed old new) }
-{
-    match &*expr.form {
-        ExprForm::Object {
-            object,
-            ty: DataType::Plain(Plain::Integral(ty)),
-            ..
-        } => object_fires(transition, *object, *ty, edge),
-        _ => None,
-    }
-}
-
-/// Whether it fires an event expression; none where an evaluation must tell.
-fn watch_fires(transition: &Transition, watch: &Watch) -> Option<bool>
-    ensures { (old new : View) → IsSeen transition.now old new
-        → IfSome result (λ b. b ≡ woken.watch_fires watch.now Changed old new) }
-{
-    match watch {
-        Watch::On {
-            expr,
-            edge,
-            condition,
-        } => match expr_fires(transition, expr, *edge) {
-            Some(true) => match condition {
-                None => Some(true),
-                Some(_) => None,
-            },
-            fires => fires,
-        },
-        Watch::Updates(_, _) => Some(false),
-    }
-}
-
-/// Whether it fires one of these; none where an evaluation must tell.
-fn some_fires(transition: &Transition, watches: &[Watch]) -> Option<bool>
-    ensures { (old new : View) → IsSeen transition.now old new
-        → IfSome result (λ b. b ≡ woken.some_fires watches.now Changed old new) }
-{
-    for watch in watches {
-        match watch_fires(transition, watch) {
-            Some(false) => {}
-            fires => return fires,
-        }
-    }
-    Some(false)
-}
-
-/// Whether it fires an event control; none where an evaluation must tell.
-fn control_fires(transition: &Transition, form: &Form) -> Option<bool>
-    ensures { (old new : View) → IsSeen transition.now old new
-        → IfSome result (λ b. b ≡ woken.some_fires (control_of form.now) Changed old new) }
-{
-    match form {
-        Form::At { watches } => some_fires(transition, watches.as_slice()),
-        _ => Some(false),
-    }
-}
-
-/// Whether it fires what is waited for; none where an evaluation must tell.
-pub(crate) fn wait_fires(transition: &Transition, design: &Design, wait: Wait) -> Option<bool>
-    ensures { (old new : View) → IsSeen transition.now old new
-        → IfSome result (λ b. b ≡ woken.some_fires (watches_at design.now wait) Changed old new) }
-{
-    match wait {
-        Wait::Control(at) => match design.body(at.routine).get(at.place) {
-            Some(stmt) => control_fires(transition, &stmt.form),
-            None => Some(false),
-        },
-        Wait::Condition(_) => None,
-        Wait::Watched(process) => match design.processes().get(process.0 as usize) {
-            Some(process) => some_fires(transition, process.watched.as_slice()),
-            None => Some(false),
-        },
     }
 }

@@ -8,7 +8,7 @@ ghost use Rattle.sv_sense.specs.Wakes.{fires_at, scenes_before, scenes_after, wa
 
 use crate::Waiter;
 use crate::fires::wait_fires;
-use crate::transition::wait_fires as transition_fires;
+use crate::told::wait_fires as transition_fires;
 use crate::trial::Trial;
 use std::alloc::Global;
 use sv_assign::Before;

@@ -3,7 +3,7 @@ use Rattle.sv_flat.specs.State.{View}
 use Rattle.sv_flat.specs.Woken as woken
 use Rattle.sv_flat.specs.Woken.{Changed}
 use Rattle.sv_sense.specs.Told.{IsSeen}
-use Rattle.sv_sense.proofs.transition.some_fires.Given as goal
+use Rattle.sv_sense.proofs.told.some_fires.Given as goal
 
 -- the rest decides
 abbrev pub invariant-loop-watch : goal.invariant-loop-watch
