@@ -7,10 +7,10 @@ use Rattle.sv_value.specs.declared.val.Integral.{Integral}
 use Rattle.sv_value.specs.declared.val.Val.{Val}
 use Rattle.sv_value.specs.declared.val.Val.TheVariants as val
 use Rattle.sv_value.specs.declared.word.Sym.{Sym}
-use Rattle.sv_value.specs.Vector.{Vector, extended, unsigned, vector}
+use Rattle.sv_value.specs.Vector.{Vector, extended, unsigned}
 use Rattle.sv_flat.specs.declared.process.Edge.{Edge}
 use Rattle.sv_flat.specs.Expr.{Expr, Literal, Select}
-use Rattle.sv_flat.specs.Eval.{Valued, bits, fitted, in_context, known_index, selected, symbols_from, value_of, vector_in, with_result}
+use Rattle.sv_flat.specs.Eval.{Valued, bits, fitted, known_index, selected, symbols_from, value_of, vector_in, with_result}
 use Rattle.sv_flat.specs.State.{View}
 use Rattle.sv_flat.specs.Woken.{Changed, fired, both_make, makes}
 use Rattle.sv_eval.proofs.SelectLaws.{from_inside}

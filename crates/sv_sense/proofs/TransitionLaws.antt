@@ -1,6 +1,6 @@
 -- What a change of a vector tells.
-use Rattle.std.proofs.Common.{◌≡◌, ◌≢◌, ℕ, Bool, true, false, Option, None, Some, Ok, refl, ap, sym, ◌∙◌, subst, length}
-use Rattle.std.specs.Prelude.{◌==◌, ◌||◌, if◌then◌else◌, IfSome}
+use Rattle.std.proofs.Common.{◌≡◌, ◌≢◌, ℕ, Bool, true, false, Option, None, Ok, refl, ap, sym, ◌∙◌, subst, length}
+use Rattle.std.specs.Prelude.{◌==◌, ◌||◌, if◌then◌else◌, slice_index_or, IfSome}
 use Rattle.std.proofs.lemmas.Bool.{eq-eqb}
 use Rattle.sv_value.specs.declared.number.ObjId.{ObjId}
 use Rattle.sv_value.specs.declared.place.Place.{Place}
@@ -15,10 +15,11 @@ use Rattle.sv_flat.specs.declared.process.Edge.{Edge}
 use Rattle.sv_flat.specs.declared.process.Edge.TheVariants as edge
 use Rattle.sv_flat.specs.Expr.{Expr, Object}
 use Rattle.sv_flat.specs.Eval.{fitted, in_context, value_of}
-use Rattle.sv_flat.specs.State.{Name, View, value_at}
+use Rattle.sv_flat.specs.State.{Elements, Name, Net, Store, Stored, View, no_value, value_at}
+use Rattle.sv_store.specs.Objects.{stored_at}
 use Rattle.sv_flat.specs.Woken.{Changed, fired, both_make, content_of, contents_differ, makes}
 use Rattle.sv_store.specs.declared.change.Overwritten.{Overwritten}
-use Rattle.sv_store.specs.Overwrites.{object_before, value_before}
+use Rattle.sv_store.specs.Overwrites.{held_before, object_before, value_before}
 use Rattle.sv_assign.specs.declared.seen.Before.{Before}
 use Rattle.sv_assign.specs.Seen.{Change, Of_object, change_in, view_before, view_in}
 use Rattle.sv_eval.proofs.VectorLaws.{own_context}
@@ -77,6 +78,14 @@ same_object t old new h o e g at ty b a =
     sym (by_values g (whole at o ty) old new refl ∙ (λ i. makes g (was i) (is i)) ∙ makes_by_symbols g t.before t.after ty.signed)
 
 -- ---- what has changed
+
+-- the first element, or a net, held what was overwritten
+pub first_before : (w : Overwritten) (s : Store) → w.element ≡ 0 → w.old ≡ value_before w s 0
+first_before w s e = by_stored (stored_at s w.object)
+  where
+    by_stored : (x : Stored) → w.old ≡ held_before x w.element w.old 0
+    by_stored (Elements vs) = sym (ap (λ (n : ℕ). if 0 == n then w.old else slice_index_or vs 0 no_value) e)
+    by_stored (Net width drivers) = refl
 
 seen_of : (w : Overwritten) (b : Before) (t : Transition) → t.object ≡ w.object → val.Bits t.before ≡ value_before w b.store.now 0 → val.Bits t.after ≡ value_at b.store.now w.object 0
     → (scope : Option Name)

@@ -67,7 +67,7 @@ fn part_fires(
         → IsSeen transition.now old new
         → BeginsAt offset is_falling (value_of index old) place → BeginsAt offset is_falling (value_of index new) place
         → IfSome result (λ b. b
-            ≡ woken.fired edge (selected width offset is_falling outside (named at object (plain_type (integral_type ty))) index) Changed old new) }
+        ≡ woken.fired edge (selected width offset is_falling outside (named at object (plain_type (integral_type ty))) index) Changed old new) }
 {
     if object.0 != transition.object.0 {
         return Some(false);

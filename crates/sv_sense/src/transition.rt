@@ -18,37 +18,57 @@ pub struct Transition {
     pub after: Bits,
 }
 
-/// A change between two values of an object, where they are vectors.
-fn between(object: ObjId, before: &Val, after: &Val) -> Option<Transition>
-    ensures object { IfSome result (λ t. t.object ≡ object) }
-    ensures before { IfSome result (λ t. bits t.before ≡ before.now) }
-    ensures after { IfSome result (λ t. bits t.after ≡ after.now) }
+/// The vector that a value is, if it is one.
+fn vector_of(value: &Val) -> Option<Bits>
+    ensures { IfSome result (λ v. bits v ≡ value.now) }
 {
-    match before {
-        Val::Bits(before) => match after {
-            Val::Bits(after) => Some(Transition {
-                object,
-                before: *before,
-                after: *after,
-            }),
-            Val::Text(_) | Val::Object(_) | Val::Event(_) => None,
-        },
+    match value {
+        Val::Bits(vector) => Some(*vector),
         Val::Text(_) | Val::Object(_) | Val::Event(_) => None,
     }
 }
 
-/// The vectors that an object has before and after it was overwritten, where they are vectors.
-fn vectors_of(alloc: Global, store: &Store, overwritten: &Overwritten) -> Option<Transition>
+/// The vector that an object was before it was overwritten, if it was one. A driver that is not the first has overwritten the value of
+/// its net, and an element that is not the first has left the first as it was.
+#[tactic(auto, using(crate::proofs::TransitionLaws::first_before))]
+fn vector_before(alloc: Global, store: &Store, overwritten: &Overwritten) -> Option<Bits>
+    ensures { IfSome result (λ v. bits v ≡ value_before overwritten.now store.now 0) }
+{
+    if overwritten.element == 0 {
+        return vector_of(&overwritten.old);
+    }
+    match store.read_before(alloc, overwritten, 0) {
+        Ok(value) => vector_of(&value),
+        Err(_) => None,
+    }
+}
+
+/// The vector that an object is now, if it is one.
+fn vector_now(alloc: Global, store: &Store, object: ObjId) -> Option<Bits>
+    ensures { IfSome result (λ v. bits v ≡ value_at store.now object 0) }
+{
+    match store.read(alloc, object, 0) {
+        Ok(value) => vector_of(&value),
+        Err(_) => None,
+    }
+}
+
+/// The change of an object from one vector to another, if it is one.
+fn change_of(alloc: Global, store: &Store, overwritten: &Overwritten) -> Option<Transition>
     ensures object { IfSome result (λ t. t.object ≡ overwritten.now.object) }
     ensures before { IfSome result (λ t. bits t.before ≡ value_before overwritten.now store.now 0) }
     ensures after { IfSome result (λ t. bits t.after ≡ value_at store.now overwritten.now.object 0) }
 {
-    match store.read_before(alloc, overwritten, 0) {
-        Ok(before) => match store.read(alloc, overwritten.object, 0) {
-            Ok(after) => between(overwritten.object, &before, &after),
-            Err(_) => None,
+    match vector_before(alloc, store, overwritten) {
+        Some(before) => match vector_now(alloc, store, overwritten.object) {
+            Some(after) => Some(Transition {
+                object: overwritten.object,
+                before,
+                after,
+            }),
+            None => None,
         },
-        Err(_) => None,
+        None => None,
     }
 }
 
@@ -59,7 +79,7 @@ pub(crate) fn transition_of(alloc: Global, before: &Before) -> Option<Transition
 {
     match before.change {
         Change::Object(overwritten) => match &overwritten.old {
-            Val::Bits(_) => vectors_of(alloc, before.store, overwritten),
+            Val::Bits(_) => change_of(alloc, before.store, overwritten),
             Val::Text(_) | Val::Object(_) | Val::Event(_) => None,
         },
         Change::Variable { .. } => None,

@@ -108,6 +108,9 @@ pub(crate) fn try_all(
     ensures woken { OnOk result (woken.new.items
         ≡ woken.old.items ++ woken_of (fires_at design.now (scenes_before before.now) (scenes_after before.now)) processes.now waits.old.items) }
 {
+    if processes.is_empty() {
+        return Ok(());
+    }
     let trial = Trial::new(alloc, before);
     let mut left = processes;
     while let [one, rest @ ..] = left {
