@@ -157,6 +157,7 @@ fn same_values(before: &Val, after: &Val) -> bool
 }
 
 /// Whether two vectors make an edge.
+#[inline(always)]
 pub(crate) fn vectors_make(edge: Edge, before: &Bits, after: &Bits) -> bool
     ensures { result ≡ woken.makes edge (val.Bits before.now) (val.Bits after.now) }
 {

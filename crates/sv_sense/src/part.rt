@@ -83,7 +83,9 @@ fn part_fires(
     Some(vectors_make(edge, &before, &after))
 }
 
-/// Whether a change fires an edge of a part; none where it is no part with a written index of an object with a vector.
+/// Whether a change fires an edge of a part; none where it is no part with a written index of an object with a vector. It stands apart, so
+/// that the way by whole objects stays short.
+#[inline(never)]
 pub(crate) fn select_fires(
     transition: &Transition,
     width: u32,
