@@ -3,3 +3,4 @@ pub mod WriteLaws
 pub mod SpotLaws
 pub mod SpreadLaws
 pub mod SeenLaws
+pub mod ValueLaws

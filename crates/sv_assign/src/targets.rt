@@ -1,10 +1,11 @@
 // The places that targets stand for (IEEE 1800-2017, 10.4 and 11.5.1).
-ghost use Rattle.std.specs.Prelude.{◌≡◌, Result, Ok, Option, Some, None, IfOk};
+ghost use Rattle.std.specs.Prelude.{◌≡◌, Result, Ok, Option, Some, None, IfOk, IfSome};
 ghost use Rattle.sv_value.specs.declared.place.FaultKind.{FaultKind as Fault};
 ghost use Rattle.sv_value.specs.declared.schedule.Range.{Range as BitRange};
 ghost use Rattle.sv_flat.specs.Eval as eval;
 ghost use Rattle.sv_flat.specs.Eval.{Valued, with_result};
 ghost use Rattle.sv_flat.specs.Targets as targets;
+ghost use Rattle.sv_flat.specs.State.{View};
 ghost use Rattle.sv_flat.specs.Targets.{Placed, is_near, range_at, range_from, range_of, spot_of, spots_of};
 ghost use Rattle.sv_eval.specs.Evaluates.{Evaluates};
 ghost use Rattle.sv_assign.specs.Places.{Answers, placed_in, spot_in, spots_in};
@@ -14,7 +15,7 @@ use crate::spot::Whole;
 use crate::{Scoped, Spot};
 use std::alloc::Global;
 use sv_eval::{Stopped, known_index, value, vector_in};
-use sv_flat::{Lvalue, Part};
+use sv_flat::{Base, Lvalue, Part};
 use sv_value::{NoMemory, ObjectTarget, Range, Val};
 
 /// The lowest place of a part.
@@ -120,9 +121,37 @@ fn in_part(place: Result<Whole, Stopped>, range: Result<Range, Stopped>) -> Resu
     }
 }
 
-/// The place that a target stands for, or the fault that it meets. Memory is wanting, too, for properties of objects, items of containers,
+/// The place of a whole object, or of a whole driver, as most targets name.
+#[inline(always)]
+fn plain_spot(target: &Lvalue) -> Option<Spot>
+    ensures { IfSome result (λ s. (v : View) → spot_of target.now v ≡ Ok (spot_in s)) }
+{
+    if target.through.is_some() || target.part.is_some() {
+        return None;
+    }
+    match &target.base {
+        Base::Object(object) => Some(target_at(
+            Whole::Cell {
+                object: *object,
+                element: 0,
+            },
+            None,
+        )),
+        Base::Driver(object, driver) => Some(target_at(
+            Whole::Cell {
+                object: *object,
+                element: *driver,
+            },
+            None,
+        )),
+        _ => None,
+    }
+}
+
+/// The same for any target. Memory is wanting, too, for properties of objects, items of containers,
 /// and members that are named through a reference.
-pub fn spot_of<V: Scoped>(alloc: Global, target: &Lvalue, values: &V) -> Result<Spot, Stopped>
+#[inline(never)]
+fn any_spot_of<V: Scoped>(alloc: Global, target: &Lvalue, values: &V) -> Result<Spot, Stopped>
     ensures { Answers spot_in result (spot_of target.now (V.view values.now)) }
 {
     match &target.through {
@@ -135,6 +164,18 @@ pub fn spot_of<V: Scoped>(alloc: Global, target: &Lvalue, values: &V) -> Result<
             ),
         },
     }
+}
+
+/// The place that a target stands for, or the fault that it meets. Memory is wanting, too, for properties of objects, items of containers,
+/// and members that are named through a reference.
+#[inline(always)]
+pub fn spot_of<V: Scoped>(alloc: Global, target: &Lvalue, values: &V) -> Result<Spot, Stopped>
+    ensures { Answers spot_in result (spot_of target.now (V.view values.now)) }
+{
+    if let Some(spot) = plain_spot(target) {
+        return Ok(spot);
+    }
+    any_spot_of(alloc, target, values)
 }
 
 /// The places that targets stand for: all are computed before the first one is written.

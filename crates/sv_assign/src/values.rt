@@ -1,7 +1,8 @@
 // The values that targets take (IEEE 1800-2017, 10.7 and 11.4.12).
-ghost use Rattle.std.specs.Prelude.{◌≡◌, ◌+◌, ◌≤◌, ℕ, IfOk, drop, length, sum_by, take};
+ghost use Rattle.std.specs.Prelude.{◌≡◌, ◌+◌, ◌≤◌, ℕ, IfOk, true, drop, length, sum_by, take};
 ghost use Rattle.sv_value.specs.declared.val.Val.TheVariants.{Bits as bits};
 ghost use Rattle.sv_value.specs.Vector.{resized, unsigned};
+ghost use Rattle.sv_flat.specs.Eval as eval;
 ghost use Rattle.sv_flat.specs.Eval.{vector_in};
 ghost use Rattle.sv_flat.specs.Targets.{as_type, at_least, converted, spread, target_values};
 ghost use Rattle.sv_flat.specs.Targets as defined;
@@ -9,11 +10,44 @@ ghost use Rattle.sv_flat.specs.Targets as defined;
 use crate::pieces::piece;
 use crate::widths::{as_integral, target_width, type_width};
 use std::alloc::Global;
-use sv_eval::vector_in;
+use sv_eval::{is_known, vector_in};
 use sv_flat::{DataType, Lvalue};
 use sv_value::{Bits, Integral, NoMemory, Plain, Val};
 
+/// Whether a vector is of an integral type already.
+#[inline(always)]
+#[tactic(auto, using(crate::proofs::ValueLaws::stays_in_four, crate::proofs::ValueLaws::stays_known))]
+fn is_of(to: Integral, value: &Bits) -> bool
+    ensures { result ≡ true → value.now ≡ eval.as_integral to value.now }
+{
+    if value.width() != to.width || value.signed() != to.signed {
+        return false;
+    }
+    to.four_state || is_known(*value)
+}
+
+/// Whether a value is one of an integral type already.
+#[inline(always)]
+fn is_integral(to: Integral, value: &Val) -> bool
+    ensures { result ≡ true → value.now ≡ bits (eval.as_integral to (vector_in value.now)) }
+{
+    match value {
+        Val::Bits(value) => is_of(to, value),
+        _ => false,
+    }
+}
+
+/// A vector as the value of an integral type.
+#[inline(never)]
+fn made_of(to: Integral, value: &Val) -> Result<Val, NoMemory>
+    ensures { IfOk result (λ v. v ≡ bits (eval.as_integral to (vector_in value.now))) }
+{
+    let value = as_integral(to, vector_in(value))?;
+    Ok(Val::Bits(value))
+}
+
 /// A value as one of a type; a part keeps its own width.
+#[inline(always)]
 fn converted(ty: DataType, width: u32, value: Val) -> Result<Val, NoMemory>
     ensures { IfOk result (λ v. v ≡ converted ty width value) }
 {
@@ -24,8 +58,10 @@ fn converted(ty: DataType, width: u32, value: Val) -> Result<Val, NoMemory>
                 signed: ty.signed,
                 four_state: ty.four_state,
             };
-            let value = as_integral(to, vector_in(&value))?;
-            Ok(Val::Bits(value))
+            if is_integral(to, &value) {
+                return Ok(value);
+            }
+            made_of(to, &value)
         }
         _ => Ok(value),
     }

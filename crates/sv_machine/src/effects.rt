@@ -26,7 +26,62 @@ use sv_flat::ProcessKind;
 use sv_stack::Effect;
 use sv_value::{Due, Job, NoMemory, Place, ProcessId, RunFault, Side};
 
+/// One of the effects that come less often. Memory is wanting for all others.
+#[inline(never)]
+fn occur_rarely(
+    machine: &mut Machine,
+    design: &Design,
+    process: ProcessId,
+    at: Place,
+    effect: Effect,
+    lines: &mut Vec<Line>,
+) -> Result<(), NoMemory>
+    requires at { IsAt design.now machine.old }
+    requires running { machine.old.running ≡ Some process }
+    requires built { IsBuilt design.now }
+    requires plain { IsPlainEffect (effect_in design.now effect) }
+    ensures ok { OnOk result (Does design.now machine.old machine.new
+        (occurred design.now at process (effect_in design.now effect)) lines.old.items lines.new.items) }
+    ensures moment { SameMoment machine.old machine.new }
+{
+    let side = machine.tree.side(process);
+    match effect {
+        Effect::Enter { entered, around } => {
+            enter(machine, design, process, at, entered, around)
+        }
+        Effect::Turn => turn(machine, process, side),
+        Effect::Spawn {
+            at: position,
+            scope,
+        } => fork(machine, design, process, at, position, scope),
+        Effect::AwaitChildren => await_children(machine, design, process),
+        Effect::EndDescendants => end_descendants(machine, design, process),
+        Effect::Print(text) => {
+            lines.push(Line { side, text })?;
+            Ok(())
+        }
+        Effect::Strobe(position) => {
+            machine.strobes.push(Kept { side, at, position })?;
+            Ok(())
+        }
+        Effect::Finish => {
+            machine.finishing = true;
+            Ok(())
+        }
+        Effect::Fail(kind) => {
+            machine.fault = Some(RunFault {
+                kind,
+                at,
+                time: machine.time,
+            });
+            Ok(())
+        }
+        _ => Err(NoMemory::Memory),
+    }
+}
+
 /// An effect of the running process, whose statement stands at a place. What is printed comes behind the lines.
+/// The effects that come most often stand here, so that no room is cleared for the others.
 pub fn occur(
     machine: &mut Machine,
     design: &Design,
@@ -46,40 +101,11 @@ pub fn occur(
     let side = machine.tree.side(process);
     match effect {
         Effect::Write { spot, value } => assign(machine, design, spot, value),
-        Effect::Enter { entered, around } => {
-            enter(machine, design, process, at, entered, around)
-        }
-        Effect::Turn => turn(machine, process, side),
         Effect::Watch { wait, scope } => watch(machine, design, process, wait, scope),
         Effect::ResumeAt(time) => resume_at(machine, process, side, time),
         Effect::UpdateAt { time, job } => update_at(machine, side, time, job),
-        Effect::Spawn {
-            at: position,
-            scope,
-        } => fork(machine, design, process, at, position, scope),
-        Effect::AwaitChildren => await_children(machine, design, process),
-        Effect::EndDescendants => end_descendants(machine, design, process),
-        Effect::Print(text) => {
-            lines.push(Line { side, text })?;
-            Ok(())
-        }
-        Effect::Strobe(position) => {
-            machine.strobes.push(Kept { side, at, position })?;
-            Ok(())
-        }
-        Effect::Finish => {
-            machine.finishing = true;
-            Ok(())
-        }
         Effect::End => end(machine, design, process),
-        Effect::Fail(kind) => {
-            machine.fault = Some(RunFault {
-                kind,
-                at,
-                time: machine.time,
-            });
-            Ok(())
-        }
+        effect => occur_rarely(machine, design, process, at, effect, lines),
     }
 }
 

@@ -30,9 +30,10 @@ use sv_eval::Stopped;
 use sv_flat::{Form, PrintKind, Stmt};
 use sv_stack::{Effect, Frames, Spare};
 
-/// A statement whose calls were made; its branches and bodies see `outer`. Memory is wanting for forms that are not run.
+/// A statement of one of the forms that come less often. Memory is wanting for all others.
+#[inline(never)]
 #[tactic(auto, using(crate::proofs::FormLemmas::by_form, crate::proofs::FormLemmas::call_is))]
-pub fn run_form<V: Scoped>(
+fn run_other_form<V: Scoped>(
     frames: &mut Frames,
     alloc: Global,
     design: &Design,
@@ -72,20 +73,6 @@ pub fn run_form<V: Scoped>(
             )?;
             Ok(())
         }
-        Form::If { condition, yes, no } => run_if(
-            frames, alloc, design, values, out, condition, *yes, *no, outer,
-        ),
-        Form::Assign { targets, value } => {
-            run_assign(
-                frames,
-                alloc,
-                design,
-                values,
-                out,
-                targets.as_slice(),
-                value,
-            )
-        }
         Form::AssignAfter {
             targets,
             value,
@@ -108,32 +95,20 @@ pub fn run_form<V: Scoped>(
         Form::Nonblocking {
             targets,
             value,
-            delay,
+            delay: Some(delay),
             in_ticks,
-        } => match delay {
-            None => run_nonblocking(
-                frames,
-                alloc,
-                design,
-                values,
-                out,
-                spare,
-                targets.as_slice(),
-                value,
-            ),
-            Some(delay) => run_nonblocking_after(
-                frames,
-                alloc,
-                design,
-                values,
-                out,
-                spare,
-                targets.as_slice(),
-                value,
-                delay,
-                *in_ticks,
-            ),
-        },
+        } => run_nonblocking_after(
+            frames,
+            alloc,
+            design,
+            values,
+            out,
+            spare,
+            targets.as_slice(),
+            value,
+            delay,
+            *in_ticks,
+        ),
         Form::Case {
             kind,
             subject,
@@ -207,22 +182,6 @@ pub fn run_form<V: Scoped>(
             run_call(frames, alloc, design, values, out, &site, stmt, call)
         }
         Form::Evaluate { value } => run_evaluate(frames, alloc, design, values, out, value),
-        Form::Delay { amount, in_ticks } => {
-            run_delay(frames, alloc, design, values, out, amount, *in_ticks)
-        }
-        Form::At { watches } => {
-            run_at(
-                frames,
-                design,
-                values,
-                out,
-                at,
-                stmt,
-                watches.as_slice(),
-                scope,
-            )?;
-            Ok(())
-        }
         Form::Wait { condition } => {
             run_wait(
                 frames, alloc, design, values, out, at, stmt, condition, outer, scope,
@@ -292,5 +251,81 @@ pub fn run_form<V: Scoped>(
             Ok(())
         }
         _ => Err(Stopped::Memory),
+    }
+}
+
+/// A statement whose calls were made; its branches and bodies see `outer`. Those that come most often stand here, so that no room is cleared
+/// for the others. Memory is wanting for forms that are not run.
+#[tactic(auto, using(crate::proofs::FormLemmas::by_form, crate::proofs::FormLemmas::call_is))]
+pub fn run_form<V: Scoped>(
+    frames: &mut Frames,
+    alloc: Global,
+    design: &Design,
+    values: &V,
+    out: &mut Vec<Effect>,
+    spare: &mut Spare,
+    at: Position,
+    stmt: &Stmt,
+    outer: Option<Name>,
+    scope: Option<Name>,
+    next: Name,
+) -> Result<(), Stopped>
+    requires first { out.old.items ≡ [] }
+    requires at { stmt_at design.now at ≡ Some stmt.now }
+    requires built { IsBuiltForm stmt.now.form }
+    requires no_end { open_calls (drop 1 (todos_of design.now frames.old)) ≡ open_calls (todos_of design.now frames.old) }
+    ensures does { (p : ProcessId) → Does design.now result frames.new out.new.items
+        (stmt_run design.now p next outer scope (V.view values.now) stmt.now stmt.now.form (drop 1 (todos_of design.now frames.old))) }
+    ensures kept { IsKept result frames.old frames.new }
+{
+    match &stmt.form {
+        Form::Assign { targets, value } => {
+            run_assign(
+                frames,
+                alloc,
+                design,
+                values,
+                out,
+                targets.as_slice(),
+                value,
+            )
+        }
+        Form::Nonblocking {
+            targets,
+            value,
+            delay: None,
+            ..
+        } => run_nonblocking(
+            frames,
+            alloc,
+            design,
+            values,
+            out,
+            spare,
+            targets.as_slice(),
+            value,
+        ),
+        Form::If { condition, yes, no } => run_if(
+            frames, alloc, design, values, out, condition, *yes, *no, outer,
+        ),
+        Form::Delay { amount, in_ticks } => {
+            run_delay(frames, alloc, design, values, out, amount, *in_ticks)
+        }
+        Form::At { watches } => {
+            run_at(
+                frames,
+                design,
+                values,
+                out,
+                at,
+                stmt,
+                watches.as_slice(),
+                scope,
+            )?;
+            Ok(())
+        }
+        _ => run_other_form(
+            frames, alloc, design, values, out, spare, at, stmt, outer, scope, next,
+        ),
     }
 }

@@ -122,6 +122,43 @@ fn run_next_call(
     Ok(went)
 }
 
+/// One of the calls before a statement, of which so many were made: the first of them where the activation of its hidden variables is not
+/// made yet.
+#[inline(never)]
+fn run_one_call(
+    frames: &mut Frames,
+    alloc: Global,
+    design: &Design,
+    seen: &Seen,
+    out: &mut Vec<Effect>,
+    at: Position,
+    stmt: &Stmt,
+    call: &Call,
+    made: usize,
+    outer: Option<Name>,
+    hidden: Option<Name>,
+    next: Name,
+) -> Result<Went, NoMemory>
+    requires empty { out.old.items ≡ [] }
+    requires at { stmt_at design.now at ≡ Some stmt.now }
+    requires number { slice_get stmt.now.calls made ≡ Some call.now }
+    requires no_end { open_calls (drop 1 (todos_of design.now frames.old)) ≡ open_calls (todos_of design.now frames.old) }
+    ensures does { IfOk result (λ w. (look : Looks) (p : ProcessId)
+        → SeesAll look (view_in seen.now.store.now seen.now.activations.now.activations seen.now.time seen.now.unit)
+        → statement_run design.now look p next stmt.now (drop made stmt.now.calls) outer hidden (drop 1 (todos_of design.now frames.old))
+        ≡ effects_of design.now w frames.new out.new.items) }
+    ensures held { IfOk result (λ w. is_held w ≡ true → frames.new ≡ frames.old) }
+{
+    match hidden {
+        Some(hidden) => run_next_call(
+            frames, alloc, design, seen, out, at, stmt, call, made, outer, hidden, next,
+        ),
+        None => run_first_call(
+            frames, alloc, design, seen, out, at, stmt, call, made, outer, next,
+        ),
+    }
+}
+
 /// A statement, of whose calls so many were made: the next of them, or what it does by its form.
 pub fn run_stmt(
     frames: &mut Frames,
@@ -147,27 +184,20 @@ pub fn run_stmt(
         ≡ effects_of design.now w frames.new out.new.items) }
     ensures held { IfOk result (λ w. is_held w ≡ true → frames.new ≡ frames.old) }
 {
-    match stmt.calls.as_slice().get(made) {
-        Some(call) => match hidden {
-            Some(hidden) => run_next_call(
-                frames, alloc, design, seen, out, at, stmt, call, made, outer, hidden, next,
-            ),
-            None => run_first_call(
-                frames, alloc, design, seen, out, at, stmt, call, made, outer, next,
-            ),
-        },
-        None => {
-            let of_form = outer;
-            let scope = seen_from(outer, hidden);
-            let of_scope = scope;
-            let values = Seen { scope, ..*seen };
-            let ran = run_form(
-                frames, alloc, design, &values, out, spare, at, stmt, of_form, of_scope, next,
-            );
-            let went = went_of(out, ran)?;
-            Ok(went)
-        }
+    if let Some(call) = stmt.calls.as_slice().get(made) {
+        return run_one_call(
+            frames, alloc, design, seen, out, at, stmt, call, made, outer, hidden, next,
+        );
     }
+    let of_form = outer;
+    let scope = seen_from(outer, hidden);
+    let of_scope = scope;
+    let values = Seen { scope, ..*seen };
+    let ran = run_form(
+        frames, alloc, design, &values, out, spare, at, stmt, of_form, of_scope, next,
+    );
+    let went = went_of(out, ran)?;
+    Ok(went)
 }
 
 /// What the expressions of a statement see.

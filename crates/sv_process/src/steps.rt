@@ -1,7 +1,7 @@
-// The next step of a process (IEEE 1800-2017, 4.4.2 and 9.2).
-ghost use Rattle.std.specs.Prelude.{◌≡◌, ◌∷◌, [], Option, None, Some, true, unwrap_or, IfOk, IfSome, OnOk};
+// The step of a process by each kind of entry that may come first (IEEE 1800-2017, 4.4.2 and 9.2).
+ghost use Rattle.std.specs.Prelude.{◌≡◌, [], Option, None, Some, true, unwrap_or, IfOk, IfSome, OnOk};
 ghost use Rattle.sv_flat.specs.declared.call.CallForm.TheVariants as form;
-ghost use Rattle.sv_stack.specs.declared.went.Went.TheVariants.{Held, On};
+ghost use Rattle.sv_stack.specs.declared.went.Went.TheVariants.{On};
 ghost use Rattle.sv_value.specs.declared.number.ProcessId.{ProcessId};
 ghost use Rattle.sv_value.specs.declared.val.Message.{Message};
 ghost use Rattle.sv_flat.specs.Micro.{Looks, run_first, place_of_step};
@@ -10,14 +10,12 @@ ghost use Rattle.sv_assign.specs.Seen.{view_in};
 ghost use Rattle.sv_built.specs.Built.{IsBuilt};
 ghost use Rattle.sv_built.specs.Positions.{stmt_at};
 ghost use Rattle.sv_stack.specs.declared.frames.Frame.TheVariants as frame;
-ghost use Rattle.sv_stack.specs.declared.effect.Effect.TheVariants.{End};
 ghost use Rattle.sv_stack.specs.Calls.{call_in};
 ghost use Rattle.sv_stack.specs.Frames.{todos_of, IsFirst, SeesAll};
 ghost use Rattle.sv_stack.specs.Effects.{effects_of, is_held};
 
 use crate::assigns::run_put;
 use crate::elements::run_elements;
-use crate::forks::step_children;
 use crate::leaves::run_leave;
 use crate::loops::run_turns;
 use crate::statement::run_stmt;
@@ -26,15 +24,8 @@ use sv_arena::Name;
 use sv_assign::{Scoped, Seen};
 use sv_built::{Design, Position};
 use sv_flat::{Argument, Call, CallForm, Form, Stmt};
-use sv_stack::{Effect, Frame, Frames, Spare, Went, call_of, put, subroutine_of, went_of};
+use sv_stack::{Effect, Frames, Spare, Went, call_of, subroutine_of, went_of};
 use sv_value::{NoMemory, Place, RoutineId, Val};
-
-/// A place in no source.
-const NOWHERE: Place = Place {
-    file: 0,
-    line: 0,
-    col: 0,
-};
 
 /// What a step tells beside its effects.
 #[derive(Clone, Copy, Debug, PartialEq, Eq)]
@@ -55,7 +46,7 @@ pub fn stmt_of<'a>(design: &'a Design, at: Position) -> Option<&'a Stmt>
 // ---- what comes first
 
 /// The step that runs the statement at a position, or the first of the calls before it.
-fn step_stmt(
+pub fn step_stmt(
     frames: &mut Frames,
     alloc: Global,
     design: &Design,
@@ -89,7 +80,7 @@ fn step_stmt(
 }
 
 /// The step that makes the next test of the loop at a position, or the first of the calls before it.
-fn step_loop(
+pub fn step_loop(
     frames: &mut Frames,
     alloc: Global,
     design: &Design,
@@ -123,7 +114,7 @@ fn step_loop(
 }
 
 /// The step that runs the statement at a position of whose calls so many were made, or the next of them.
-fn step_called(
+pub fn step_called(
     frames: &mut Frames,
     alloc: Global,
     design: &Design,
@@ -159,7 +150,7 @@ fn step_called(
 }
 
 /// The step that takes the next of the turns that are left of the `repeat` at a position.
-fn step_turns(
+pub fn step_turns(
     frames: &mut Frames,
     design: &Design,
     out: &mut Vec<Effect>,
@@ -192,7 +183,7 @@ fn step_turns(
 }
 
 /// The step that takes the next element in the walk of the `foreach` at a position. Memory is wanting where no such `foreach` stands there.
-fn step_elements(
+pub fn step_elements(
     frames: &mut Frames,
     design: &Design,
     out: &mut Vec<Effect>,
@@ -227,7 +218,7 @@ fn step_elements(
 }
 
 /// The step that does what is left of the `a = #d e` at a position, as its scope sees it.
-fn step_put<V: Scoped>(
+pub fn step_put<V: Scoped>(
     frames: &mut Frames,
     alloc: Global,
     design: &Design,
@@ -310,7 +301,7 @@ fn end_call<V: Scoped, W: Scoped>(
 }
 
 /// The step that ends a call of the statement at a position.
-fn step_leave(
+pub fn step_leave(
     frames: &mut Frames,
     alloc: Global,
     design: &Design,
@@ -374,116 +365,4 @@ fn step_leave(
     )?;
     *stepped = Stepped { went, at: stmt.at };
     Ok(())
-}
-
-// ---- the step
-
-/// The step of a process of which nothing is left.
-fn step_over(out: &mut Vec<Effect>, stepped: &mut Stepped) -> Result<(), NoMemory>
-    requires { out.old.items ≡ [] }
-    ensures stepped { OnOk result (stepped.new ≡ record { went = Held; at = no_place }) }
-    ensures out { OnOk result (out.new.items ≡ End ∷ []) }
-{
-    put(out, Effect::End)?;
-    *stepped = Stepped {
-        went: Went::Held,
-        at: NOWHERE,
-    };
-    Ok(())
-}
-
-/// The next step of a process: what it does, in order, and what it leaves to run. It sees what `seen` has, from the scope of what comes
-/// first. The next activation that is made gets the name `next`, and the one after it the name that follows.
-///
-/// After an error nothing is said. Memory is wanting, too, for forms that are not run.
-pub fn step(
-    frames: &mut Frames,
-    alloc: Global,
-    design: &Design,
-    seen: &Seen,
-    out: &mut Vec<Effect>,
-    spare: &mut Spare,
-    next: Name,
-    stepped: &mut Stepped,
-) -> Result<(), NoMemory>
-    requires built { IsBuilt design.now }
-    requires empty { out.old.items ≡ [] }
-    ensures does { OnOk result ((look : Looks) (p : ProcessId) (handed : Option Message)
-        → SeesAll look (view_in seen.now.store.now seen.now.activations.now.activations seen.now.time seen.now.unit)
-        → run_first design.now look p next handed (todos_of design.now frames.old) ≡ effects_of design.now stepped.new.went frames.new out.new.items) }
-    ensures at { OnOk result (stepped.new.at ≡ unwrap_or (place_of_step (todos_of design.now frames.old)) no_place) }
-    ensures held { OnOk result (is_held stepped.new.went ≡ true → todos_of design.now frames.new ≡ todos_of design.now frames.old) }
-{
-    frames.settle(design);
-    match frames.first() {
-        None => step_over(out, stepped),
-        Some(Frame::Rest { at, scope }) => {
-            let (at, scope) = (*at, *scope);
-            step_stmt(
-                frames, alloc, design, seen, out, spare, at, scope, next, stepped,
-            )
-        }
-        Some(Frame::Loop { at, scope }) => {
-            let (at, scope) = (*at, *scope);
-            step_loop(
-                frames, alloc, design, seen, out, spare, at, scope, next, stepped,
-            )
-        }
-        Some(Frame::Turns { at, left, scope }) => {
-            let (at, left, scope) = (*at, *left, *scope);
-            step_turns(frames, design, out, at, left, scope, stepped)
-        }
-        Some(
-            Frame::Elements {
-                at,
-                next: walked,
-                scope,
-            },
-        ) => {
-            let (at, walked, scope) = (*at, *walked, *scope);
-            step_elements(frames, design, out, at, walked, scope, next, stepped)
-        }
-        Some(Frame::Put { at, value, scope }) => {
-            let (at, scope) = (*at, *scope);
-            let value = value.copy(alloc)?;
-            let of_values = scope;
-            let values = Seen {
-                scope: of_values,
-                ..*seen
-            };
-            step_put(
-                frames, alloc, design, &values, out, at, value, scope, stepped,
-            )
-        }
-        Some(Frame::Children { at, scope }) => {
-            let (at, scope) = (*at, *scope);
-            step_children(frames, design, out, at, scope, stepped)
-        }
-        Some(
-            Frame::Called {
-                at,
-                made,
-                outer,
-                hidden,
-            },
-        ) => {
-            let (at, made, outer, hidden) = (*at, *made, *outer, *hidden);
-            step_called(
-                frames, alloc, design, seen, out, spare, at, made, outer, hidden, next, stepped,
-            )
-        }
-        Some(
-            Frame::Leave {
-                at,
-                number,
-                callee,
-                caller,
-            },
-        ) => {
-            let (at, number, callee, caller) = (*at, *number, *callee, *caller);
-            step_leave(
-                frames, alloc, design, seen, out, at, number, callee, caller, stepped,
-            )
-        }
-    }
 }

@@ -9,6 +9,7 @@ use sv_built::Design;
 use sv_value::NoMemory;
 
 /// An effect comes behind the others.
+#[inline(always)]
 pub fn put(out: &mut Vec<Effect>, effect: Effect) -> Result<(), NoMemory>
     ensures { OnOk result (out.new.items ≡ out.old.items ++ effect ∷ []) }
 {
@@ -17,6 +18,7 @@ pub fn put(out: &mut Vec<Effect>, effect: Effect) -> Result<(), NoMemory>
 }
 
 /// The process runs on, or is at its end where nothing is left.
+#[inline(always)]
 #[tactic(auto, using(crate::proofs::EndLemmas::ended, crate::proofs::EndLemmas::not_ended))]
 pub fn go_on(frames: &mut Frames, design: &Design, out: &mut Vec<Effect>) -> Result<(), NoMemory>
     ensures { OnOk result (Leaves design.now frames.new out.new.items
@@ -29,6 +31,7 @@ pub fn go_on(frames: &mut Frames, design: &Design, out: &mut Vec<Effect>) -> Res
 }
 
 /// The process runs on without an effect.
+#[inline(always)]
 pub fn pass(frames: &mut Frames, design: &Design, out: &mut Vec<Effect>) -> Result<(), NoMemory>
     requires { out.old.items ≡ [] }
     ensures { OnOk result (Leaves design.now frames.new out.new.items (goes_on (todos_of design.now frames.old) [])) }
@@ -37,6 +40,7 @@ pub fn pass(frames: &mut Frames, design: &Design, out: &mut Vec<Effect>) -> Resu
 }
 
 /// The process runs on after one effect.
+#[inline(always)]
 pub fn pass_with(
     frames: &mut Frames,
     design: &Design,
@@ -52,6 +56,7 @@ pub fn pass_with(
 }
 
 /// The process waits after one effect.
+#[inline(always)]
 pub fn wait_with(
     frames: &mut Frames,
     design: &Design,

@@ -1,5 +1,5 @@
 // What a process has still to run: a stack of places in routines, each with the scope in which its statements run.
-ghost use Rattle.std.specs.Prelude.{◌≡◌, ◌∷◌, ◌<◌, [], ℕ, Option, None, Some, drop, reverse, length, nat_le, OnOk, IfOk, IfSome, IfNone};
+ghost use Rattle.std.specs.Prelude.{◌≡◌, ◌∷◌, ◌<◌, [], ℕ, Option, None, Some, true, drop, reverse, length, nat_le, OnOk, IfOk, IfSome, IfNone};
 ghost use Rattle.sv_value.specs.declared.place.Place.{Place};
 ghost use Rattle.sv_value.specs.declared.val.Val.{Val};
 ghost use Rattle.sv_flat.specs.declared.design.Parts.{Parts};
@@ -417,9 +417,34 @@ fn open_calls(stack: &[Frame], design: &Design) -> usize
     open
 }
 
+/// Whether a statement of a routine comes first, as it mostly does.
+#[inline(always)]
+#[tactic(auto, using(crate::proofs::FrameLemmas::settled_first, crate::proofs::FrameLemmas::more_rest))]
+fn is_at_statement(frames: &Frames, design: &Design) -> bool
+    ensures { result ≡ true → IsSettled design.now frames.now }
+{
+    match frames.innermost() {
+        Some(Frame::Rest { at, .. }) => at.place < design.body(at.routine).len(),
+        _ => false,
+    }
+}
+
 /// Drops the entries of which nothing is left.
-#[tactic(auto, using(crate::proofs::FrameLemmas::settled_first, crate::proofs::FrameLemmas::settled_none))]
+#[inline(always)]
 fn settle(frames: &mut Frames, design: &Design)
+    ensures same { todos_of design.now frames.new ≡ todos_of design.now frames.old }
+    ensures settled { IsSettled design.now frames.new }
+{
+    if is_at_statement(frames, design) {
+        return;
+    }
+    drop_done(frames, design);
+}
+
+/// Drops the entries of which nothing is left, one after another.
+#[inline(never)]
+#[tactic(auto, using(crate::proofs::FrameLemmas::settled_first, crate::proofs::FrameLemmas::settled_none))]
+fn drop_done(frames: &mut Frames, design: &Design)
     ensures same { todos_of design.now frames.new ≡ todos_of design.now frames.old }
     ensures settled { IsSettled design.now frames.new }
 {

@@ -35,6 +35,8 @@ pub enum Went {
 }
 
 /// A fault is the only effect of the step that meets it.
+#[cold]
+#[inline(never)]
 fn fail(out: &mut Vec<Effect>, kind: FaultKind) -> Result<(), NoMemory>
     ensures { OnOk result (out.new.items ≡ Fail kind ∷ []) }
 {
@@ -43,6 +45,7 @@ fn fail(out: &mut Vec<Effect>, kind: FaultKind) -> Result<(), NoMemory>
 }
 
 /// What came of a step; a fault is its only effect.
+#[inline(always)]
 pub fn went_of(out: &mut Vec<Effect>, ran: Result<(), Stopped>) -> Result<Went, NoMemory>
     ensures does { IfOk result (λ w. (d : Parts) (fs : List Entry) (all : Effects)
         → Does d ran fs out.old.items all → all ≡ effects_of d w fs out.new.items) }

@@ -1,6 +1,6 @@
 use Rattle.std.proofs.Common.{◌∙◌, sym}
 use Rattle.sv_stack.proofs.FrameLemmas.{popped_fewer, popped_same}
-use Rattle.sv_stack.proofs.frames.settle.Goals as goal
+use Rattle.sv_stack.proofs.frames.drop_done.Goals as goal
 
 pub loop-top-preserved : goal.loop-top-preserved
 loop-top-preserved c =

@@ -4,7 +4,7 @@ use Rattle.sv_value.specs.declared.place.FaultKind.{FaultKind}
 use Rattle.sv_flat.specs.Process.{Spot}
 use Rattle.sv_assign.specs.Places.{Answers, spot_in}
 use Rattle.sv_assign.proofs.SpotLaws.{spot_of-part}
-use Rattle.sv_assign.proofs.targets.spot_of.Goals as goal
+use Rattle.sv_assign.proofs.targets.any_spot_of.Goals as goal
 
 pub returns-in-Some-part : goal.returns-in-Some-part
 returns-in-Some-part g c =
