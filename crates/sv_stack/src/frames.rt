@@ -213,6 +213,7 @@ impl Frames {
     }
 
     /// Drops the entries of which nothing is left.
+    #[inline(always)]
     pub fn settle(&mut self, design: &Design)
         ensures { todos_of design.now self.new ≡ todos_of design.now self.old }
     {
@@ -220,6 +221,7 @@ impl Frames {
     }
 
     /// The entry that comes first.
+    #[inline(always)]
     #[tactic(auto, using(crate::proofs::FrameLemmas::first_entry))]
     pub fn first(&self) -> Option<&Frame>
         ensures some { IfSome result (λ f. (d : Parts) → IsFirst d f.now (todos_of d self.now)) }
@@ -229,6 +231,7 @@ impl Frames {
     }
 
     /// The innermost entry.
+    #[inline(always)]
     fn innermost(&self) -> Option<&Frame>
         ensures some { IfSome result (λ f. self.now ≡ f.now ∷ drop 1 self.now) }
         ensures none { IfNone result (self.now ≡ []) }
@@ -237,6 +240,7 @@ impl Frames {
     }
 
     /// Moves on to the next place, where the entry that comes first is the rest of a routine. Memory is wanting where that place has no number.
+    #[inline(always)]
     fn pass_place(&mut self) -> Result<bool, NoMemory>
         ensures passed { OnOk result (self.new ≡ passed self.old) }
         ensures rest { IfOk result (λ b. b ≡ begins_with_rest self.old) }
@@ -251,6 +255,7 @@ impl Frames {
     }
 
     /// Leaves what comes first.
+    #[inline(always)]
     pub fn leave_first(&mut self, design: &Design) -> Result<(), NoMemory>
         ensures { OnOk result (todos_of design.now self.new ≡ drop 1 (todos_of design.now self.old)) }
     {
@@ -270,6 +275,7 @@ impl Frames {
     }
 
     /// Whether something is left.
+    #[inline(always)]
     #[tactic(auto, using(crate::proofs::FrameLemmas::more_left, crate::proofs::FrameLemmas::none_left))]
     pub fn is_more(&mut self, design: &Design) -> bool
         ensures same { todos_of design.now self.new ≡ todos_of design.now self.old }
@@ -457,6 +463,7 @@ fn drop_done(frames: &mut Frames, design: &Design)
 }
 
 /// The last entry of a stack.
+#[inline(always)]
 #[tactic(auto, using(crate::proofs::FrameLemmas::last_first, crate::proofs::FrameLemmas::no_entry))]
 fn last_of(stack: &SmallVec<Frame, 2>) -> Option<&Frame>
     ensures some { IfSome result (λ f. reverse stack.now.items ≡ f.now ∷ drop 1 (reverse stack.now.items)) }
@@ -485,6 +492,7 @@ pub fn scope_in(frame: &Frame) -> Option<Name>
 }
 
 /// Moves the rest of a routine on to its next place, and tells whether it is one. Memory is wanting where that place has no number.
+#[inline(always)]
 fn pass(frame: &mut Frame) -> Result<bool, NoMemory>
     ensures passed { OnOk result (frame.new ≡ passed_in frame.old) }
     ensures rest { IfOk result (λ b. b ≡ is_rest frame.old) }
@@ -503,6 +511,7 @@ fn pass(frame: &mut Frame) -> Result<bool, NoMemory>
 }
 
 /// Leaves what comes first. Memory is wanting where no number is left for the next place.
+#[inline(always)]
 #[tactic(auto, using(crate::proofs::FrameLemmas::left_rest, crate::proofs::FrameLemmas::left_loop, crate::proofs::FrameLemmas::left_turns, crate::proofs::FrameLemmas::left_elements, crate::proofs::FrameLemmas::left_put, crate::proofs::FrameLemmas::left_children, crate::proofs::FrameLemmas::left_called, crate::proofs::FrameLemmas::left_end))]
 fn leave_top(frames: &mut Frames, design: &Design) -> Result<(), NoMemory>
     requires { IsSettled design.now frames.old }

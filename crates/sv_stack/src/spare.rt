@@ -35,6 +35,7 @@ impl Spare {
     }
 
     /// An empty list of processes, with the memory of the one that was kept.
+    #[inline(always)]
     pub fn woken(&mut self, alloc: Global) -> Vec<ProcessId>
         ensures { result.items ≡ [] }
     {
@@ -44,11 +45,13 @@ impl Spare {
     }
 
     /// Keeps the memory of a list of processes.
+    #[inline(always)]
     pub fn keep_woken(&mut self, woken: Vec<ProcessId>) {
         self.woken = woken;
     }
 
     /// An empty list of effects, with the memory of the one that was kept.
+    #[inline(always)]
     pub fn effects(&mut self, alloc: Global) -> Vec<Effect>
         ensures { result.items ≡ [] }
     {
@@ -58,6 +61,7 @@ impl Spare {
     }
 
     /// Keeps the memory of a list of effects.
+    #[inline(always)]
     pub fn keep(&mut self, effects: Vec<Effect>) {
         self.effects = effects;
     }
