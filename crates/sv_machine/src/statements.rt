@@ -134,14 +134,13 @@ fn occur_all(
         (all_occurred design.now at process (effects_in design.now (reverse effects.old.items))) lines.old.items lines.new.items) }
     ensures moment { SameMoment machine.old machine.new }
 {
-    let Some(effect) = effects.pop() else {
-        return Ok(());
-    };
-    occur(machine, design, process, at, effect, lines)?;
-    if !goes_on(machine, process) {
-        return Ok(());
+    while let Some(effect) = effects.pop() {
+        occur(machine, design, process, at, effect, lines)?;
+        if !goes_on(machine, process) {
+            return Ok(());
+        }
     }
-    occur_all(machine, design, process, at, effects, lines)
+    Ok(())
 }
 
 /// Whether a process still runs, and no fault was met.
