@@ -61,12 +61,16 @@ loop-effect-preserved c =
     let both = c.goes_on.ensures.0 go in
     let none : IsNone n.fault = ap is_some both.1 in
     let at : IsAt d n =
-    at_after d c.requires.built c.args.at c.args.process m n c.loop-effect.invariant.1 _ plain.0 c.loop-effect.lines.items c.occur.new.lines.items c.in_ok-occur.ensures.ok none c.loop-effect.invariant.0 in
-    (at, both.0, plain.1, (λ l ls h. c.loop-effect.invariant.3 l ls
-    (subst (λ (es : List Own_effect). Does d m l (all_occurred d c.args.at c.args.process (effects_in d es)) c.loop-effect.lines.items ls) (sym is)
-    (more_does d c.requires.built c.args.at c.args.process m n c.loop-effect.invariant.1 _ plain.0 c.loop-effect.lines.items c.occur.new.lines.items c.in_ok-occur.ensures.ok
-    l (effects_in d (reverse us)) ls none h))),
-    record { time = c.occur.ensures.moment.time ∙ c.loop-effect.invariant.4.time; executed = c.occur.ensures.moment.executed ∙ c.loop-effect.invariant.4.executed })
+    at_after d c.requires.built c.args.at c.args.process m n c.loop-effect.invariant.1 _ plain.0 c.loop-effect.lines.items c.occur.new.lines.items c.in_ok-occur.ensures.ok none c.loop-effect.invariant.0 in (
+      at,
+      both.0,
+      plain.1,
+      (λ l ls h. c.loop-effect.invariant.3 l ls
+          (subst (λ (es : List Own_effect). Does d m l (all_occurred d c.args.at c.args.process (effects_in d es)) c.loop-effect.lines.items ls) (sym is)
+          (more_does d c.requires.built c.args.at c.args.process m n c.loop-effect.invariant.1 _ plain.0 c.loop-effect.lines.items c.occur.new.lines.items c.in_ok-occur.ensures.ok
+          l (effects_in d (reverse us)) ls none h))),
+      record { time = c.occur.ensures.moment.time ∙ c.loop-effect.invariant.4.time; executed = c.occur.ensures.moment.executed ∙ c.loop-effect.invariant.4.executed },
+    )
 
 pub returns-clause-ok : goal.returns-clause-ok
 returns-clause-ok c =
