@@ -12,10 +12,11 @@ use crate::passing::arguments;
 use crate::rows::in_row;
 use crate::types::type_of;
 use std::alloc::Global;
+use sv_elab_copies::copy_expr;
 use sv_elab_value::{call_stands, code_of, paired, task_stands, value_stands};
 use sv_flat::{Argument, CallForm, Expr};
 use sv_names::{
-    Arg, Around, Called, Callee, Checked, Hoisted, Refusal, Ty, Typed, both, copy_expr, where_also,
+    Arg, Around, Called, Callee, Checked, Hoisted, Refusal, Ty, Typed, both, where_also,
 };
 use sv_value::{Place, Seq, Text};
 

@@ -17,12 +17,13 @@ ghost use Rattle.sv_elab_call.specs.Passing as passing;
 use crate::types::type_of;
 use std::alloc::Global;
 use std::vec;
+use sv_elab_copies::copy_typed;
 use sv_elab_select::{Spot, lvalues, read_lvalues, read_of, takes};
 use sv_elab_value::{assigned, values_stand};
 use sv_flat::{Argument, Expr, Lvalue};
 use sv_names::{
-    Arg, Around, Checked, Formal, Hoisted, Refusal, Ty, Typed, and_next, answer, both, copy_typed,
-    judged, where_also,
+    Arg, Around, Checked, Formal, Hoisted, Refusal, Ty, Typed, and_next, answer, both, judged,
+    where_also,
 };
 use sv_tree::Direction;
 use sv_value::{Place, Seq};

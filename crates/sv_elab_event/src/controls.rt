@@ -15,9 +15,10 @@ ghost use Rattle.sv_elab_event.specs.Occasions as occasions;
 
 use crate::parts::{watch_of, watch_of_name};
 use std::alloc::Global;
+use sv_elab_copies::copy_expr;
 use sv_elab_flow::{in_event, in_row};
 use sv_flat::{Edge, Expr, Form, Watch};
-use sv_names::{Around, Checked, Hoisted, Refusal, and_next, copy_expr, judged};
+use sv_names::{Around, Checked, Hoisted, Refusal, and_next, judged};
 use sv_tree::{EventPart, Name};
 use sv_value::Seq;
 

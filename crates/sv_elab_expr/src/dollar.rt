@@ -3,8 +3,9 @@ ghost use Rattle.sv_names.specs.Expressions as expressions;
 ghost use Rattle.sv_names.specs.Given.{Gives};
 
 use std::alloc::Global;
+use sv_elab_copies::copy_expr;
 use sv_elab_name::sv_elab_value::{pure, value_typed};
-use sv_names::{Dollar, Refusal, Typed, copy_expr, int_type};
+use sv_names::{Dollar, Refusal, Typed, int_type};
 use sv_value::Place;
 
 /// E7: `$` stands in the index of a queue.

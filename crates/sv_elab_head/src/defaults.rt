@@ -9,10 +9,11 @@ ghost use Rattle.sv_names.specs.Given.{Gives};
 ghost use Rattle.sv_elab_head.specs.Formals as formals;
 
 use std::alloc::Global;
+use sv_elab_copies::copy_typed;
 use sv_elab_signal::known;
 use sv_elab_type::sv_elab_expr::{expr, place_of};
 use sv_elab_type::sv_elab_value::{assigned, constant};
-use sv_names::{Around, Checked, Refusal, Ty, Typed, copy_typed, first};
+use sv_names::{Around, Checked, Refusal, Ty, Typed, first};
 use sv_tree::Expr;
 use sv_value::{NoMemory, Place};
 

@@ -5,9 +5,10 @@ ghost use Rattle.sv_names.specs.Calls as calls;
 ghost use Rattle.sv_names.specs.Hoisted as hoisted;
 
 use std::alloc::Global;
+use sv_elab_copies::copy_expr;
 use sv_elab_value::{expr_of, paired};
 use sv_flat::{Expr, ExprForm};
-use sv_names::{Hoisted, Refusal, copy_expr};
+use sv_names::{Hoisted, Refusal};
 
 /// The number of items of a container.
 pub fn size_expr(alloc: Global, container: &Expr) -> Result<Expr, Refusal>

@@ -12,10 +12,10 @@ use crate::suffixes::member_of_value;
 use crate::value::{bare_method, bare_subroutine, result_value};
 use crate::{Calls, signal_named, signal_read, signal_target, value_member};
 use std::alloc::Global;
+use sv_elab_copies::copy_typed;
 use sv_elab_value::values_stand;
 use sv_names::{
-    Arg, Around, Called, Callee, Checked, Fault, Method, Refusal, SignalInfo, Ty, Typed,
-    copy_typed, where_also,
+    Arg, Around, Called, Callee, Checked, Fault, Method, Refusal, SignalInfo, Ty, Typed, where_also,
 };
 use sv_tree::Name;
 use sv_value::{Place, Seq, Text};

@@ -9,11 +9,10 @@ ghost use Rattle.sv_names.specs.Things as things;
 ghost use Rattle.sv_names.specs.Views.{around_in};
 
 use std::alloc::Global;
+use sv_elab_copies::{copy_code, copy_expr};
 use sv_elab_value::{code_of, expr_of, paired, pure};
 use sv_flat::{Base, DataType, Expr, ExprForm};
-use sv_names::{
-    Around, Begin, Hoisted, Refusal, Target, Ty, Typed, copy_code, copy_expr, copy_path,
-};
+use sv_names::{Around, Begin, Hoisted, Refusal, Target, Ty, Typed, copy_path};
 use sv_tree::Name;
 use sv_value::{ObjId, Place, Seq, Text};
 

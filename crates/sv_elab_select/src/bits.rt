@@ -19,11 +19,12 @@ ghost use Rattle.sv_elab_select.specs.Parts as parts;
 use crate::rules::guarded;
 use std::alloc::Global;
 use std::mem;
+use sv_elab_copies::copy_expr;
 use sv_elab_value::{
     alone, constant_number, counted, expr_of, index, not_too_wide, paired, pure, rule, value_typed,
 };
 use sv_flat::{Bounds, Expr, ExprForm, Part};
-use sv_names::{Hoisted, Refusal, Target, Ty, Typed, both, copy_expr, plain_vector};
+use sv_names::{Hoisted, Refusal, Target, Ty, Typed, both, plain_vector};
 use sv_tree::PartWord;
 use sv_value::{Bits, Place, Seq, Sym, WIDEST};
 

@@ -16,9 +16,10 @@ ghost use Rattle.sv_elab_select.specs.Parts as parts;
 use crate::bits::note_select;
 use crate::rules::guarded;
 use std::alloc::Global;
+use sv_elab_copies::copy_expr;
 use sv_elab_value::{alone, exactly, expr_of, number_index, paired, rule};
 use sv_flat::{Base, Bounds, Container, Expr, ExprForm};
-use sv_names::{Around, Hoisted, Refusal, Target, Ty, Typed, copy_expr};
+use sv_names::{Around, Hoisted, Refusal, Target, Ty, Typed};
 use sv_value::{ObjId, Place, Plain};
 
 // ---- in the flat design

@@ -9,11 +9,10 @@ ghost use Rattle.sv_elab_select.specs.Written as parts;
 
 use crate::targets::{Spot, widths};
 use std::alloc::Global;
+use sv_elab_copies::{copy_base, copy_optional, copy_part};
 use sv_elab_value::{code_of, expr_of, paired, pure, value_typed};
 use sv_flat::{Expr, ExprForm, Lvalue};
-use sv_names::{
-    Around, Hoisted, Refusal, Ty, Typed, copy_base, copy_optional, copy_part, plain_vector,
-};
+use sv_names::{Around, Hoisted, Refusal, Ty, Typed, plain_vector};
 use sv_value::{Place, Seq};
 
 // ---- what is written

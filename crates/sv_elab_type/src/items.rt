@@ -17,10 +17,11 @@ ghost use Rattle.sv_elab_type.specs.Items as items;
 use crate::parameters::constant_of;
 use crate::types::type_of;
 use std::alloc::Global;
+use sv_elab_copies::copy_expr;
 use sv_elab_expr::sv_elab_value::{bits_of, expr_of, known_index, pure, value_typed};
 use sv_elab_expr::{expr, place_of};
 use sv_flat::{Expr, ExprForm};
-use sv_names::{Around, Refusal, Ty, Typed, both, copy_expr, int_type};
+use sv_names::{Around, Refusal, Ty, Typed, both, int_type};
 use sv_tree::{Expr as Written, Name, WrittenType};
 use sv_value::{Bits, Integral, Place, Sym, Text, WIDEST, mask};
 

@@ -18,11 +18,12 @@ ghost use Rattle.sv_elab_type.specs.Parameters as parameters;
 use crate::types::{implied, range_of, type_of};
 use crate::vectors::{is_signed, vector_type};
 use std::alloc::Global;
+use sv_elab_copies::copy_typed;
 use sv_elab_expr::sv_elab_value::{constant, exactly, value_typed};
 use sv_elab_expr::{expr, place_of};
 use sv_elab_scope::Source;
 use sv_flat::Bounds;
-use sv_names::{Around, Checked, Refusal, Ty, Typed, copy_typed, where_also, whole};
+use sv_names::{Around, Checked, Refusal, Ty, Typed, where_also, whole};
 use sv_tree::{ImpliedType, Range};
 use sv_value::{Integral, Place, Text};
 

@@ -6,8 +6,8 @@ ghost use Rattle.sv_names.specs.Watched as watched;
 ghost use Rattle.sv_elab_watch.specs.Reading.{Added, up_outside};
 
 use std::alloc::Global;
+use sv_elab_copies::copy_expr;
 use sv_flat::{DataType, Expr, ExprForm};
-use sv_names::copy_expr;
 use sv_value::{NoMemory, Plain, Seq};
 
 /// The expression of a form.

@@ -2,10 +2,10 @@
 ghost use Rattle.std.specs.Prelude.{Some};
 
 use super::words_of;
-use crate::simulate::simulate;
 use std::marker::Model;
 use std::test::Fail;
 use sv_io::{GoodShelf, GoodSink, MemShelf, MemSink, Sink, SinkError};
+use sv_simulate::simulate;
 
 #[test]
 fn puts_nothing_behind_a_failed_put(rt: HostRuntime) -> Result<(), Fail> {
