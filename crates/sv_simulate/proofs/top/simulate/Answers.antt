@@ -4,7 +4,7 @@ use Rattle.std.specs.Prelude.{codes}
 use Rattle.sv_simulate.specs.Said.{limits, IsLine, line}
 use Rattle.sv_simulate.specs.Simulated.{texts, IsPrefixOfRecords}
 use Rattle.sv_simulate.proofs.SaidLemmas.{after_whole, after_part, after_none, cut_in_records, cut_in_closing, cut_in_memory_line, memory_line_put, no_memory_line, no_closing}
-use Rattle.sv_simulate.proofs.simulate.simulate.Goals as goal
+use Rattle.sv_simulate.proofs.top.simulate.Goals as goal
 
 pub returns-in-Ok-put-clause-prefix : goal.returns-in-Ok-put-clause-prefix
 returns-in-Ok-put-clause-prefix g c =
