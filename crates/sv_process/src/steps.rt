@@ -1,5 +1,5 @@
 // The step of a process by each kind of entry that may come first (IEEE 1800-2017, 4.4.2 and 9.2).
-ghost use Rattle.std.specs.Prelude.{◌≡◌, [], Option, None, Some, true, unwrap_or, IfOk, IfSome, OnOk};
+ghost use Rattle.std.specs.Prelude.{◌≡◌, [], Option, None, Some, true, unwrap_or, IfOk, IfSome, IfNone, OnOk};
 ghost use Rattle.sv_flat.specs.declared.call.CallForm.TheVariants as form;
 ghost use Rattle.sv_stack.specs.declared.went.Went.TheVariants.{On};
 ghost use Rattle.sv_value.specs.declared.number.ProcessId.{ProcessId};
@@ -38,7 +38,8 @@ pub struct Stepped {
 
 /// The statement at a position, if there is one.
 pub fn stmt_of<'a>(design: &'a Design, at: Position) -> Option<&'a Stmt>
-    ensures { IfSome result (λ s. stmt_at design.now at ≡ Some s.now) }
+    ensures some { IfSome result (λ s. stmt_at design.now at ≡ Some s.now) }
+    ensures none { IfNone result (stmt_at design.now at ≡ None) }
 {
     design.body(at.routine).get(at.place)
 }

@@ -215,7 +215,8 @@ impl Frames {
     /// Drops the entries of which nothing is left.
     #[inline(always)]
     pub fn settle(&mut self, design: &Design)
-        ensures { todos_of design.now self.new ≡ todos_of design.now self.old }
+        ensures same { todos_of design.now self.new ≡ todos_of design.now self.old }
+        ensures settled { IsSettled design.now self.new }
     {
         settle(self, design);
     }
