@@ -1,4 +1,4 @@
-// How often nets stand in a list: it is told in a time that does not grow with the list.
+// How often nets stand in a list: it is told without a walk along the list.
 ghost use Rattle.std.specs.Prelude.{◌≡◌, ◌+◌, ◌++◌, ◌∷◌, [], List, Some, IfOk, OnOk, option_map};
 ghost use Rattle.std.specs.Ordering.{nat_cmp};
 ghost use Rattle.std.specs.BTreeMap.{Updates};

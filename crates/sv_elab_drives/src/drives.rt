@@ -9,8 +9,8 @@ use std::marker::Model;
 use sv_names::Path;
 use sv_value::{NoMemory, Seq, Text};
 
-/// The nets that are driven so far, each as often as it has drivers. They are seen as their list; how often a net stands in it is told in a
-/// time that does not grow with it.
+/// The nets that are driven so far, each as often as it has drivers. They are seen as their list; how often a net stands in it is told
+/// without a walk along it.
 pub struct Drives {
     nets: Seq<Path>,
     counts: Counts,

@@ -7,16 +7,16 @@ ghost use Rattle.sv_elab_unit.specs.Definitions.{definition_in};
 ghost use Rattle.sv_elab_unit.specs.Units.{Finds};
 
 use crate::definitions::{Definition, definition_of};
-use indexmap::IndexMap;
 use std::alloc::Global;
+use std::collections::BTreeMap;
 use std::marker::Model;
 use sv_tree::Description;
 use sv_value::NoMemory;
 
 /// The first unit of each name, by its bytes.
-type UnitIndex<'t> = IndexMap<Vec<u8>, Definition<'t>>;
+type UnitIndex<'t> = BTreeMap<Vec<u8>, Definition<'t>>;
 
-/// The descriptions of all files. They are seen as their list; a module or a program is found in a time that does not grow with it.
+/// The descriptions of all files. They are seen as their list; a module or a program is found without a walk along it.
 pub struct Units<'t> {
     all: &'t [Description],
     first: UnitIndex<'t>,

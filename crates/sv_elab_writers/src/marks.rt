@@ -1,4 +1,4 @@
-// Writes by marks of their objects: those of one object are found in a time that does not grow with the others.
+// Writes by marks of their objects: those of one object are found without a walk along the others.
 ghost use Rattle.std.specs.Prelude.{◌≡◌, ◌≢◌, ◌++◌, ◌∷◌, [], ℕ, List, Some, map, IfOk, OnOk};
 ghost use Rattle.std.specs.Ordering.{nat_cmp};
 ghost use Rattle.std.specs.BTreeMap.{get};

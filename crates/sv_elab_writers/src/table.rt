@@ -10,7 +10,7 @@ use std::marker::Model;
 use sv_names::{Path, PathIndex, copy_path};
 use sv_value::{NoMemory, Seq, Text};
 
-/// The touches of the subroutines. They are seen as their list; those of one are found in a time that does not grow with it.
+/// The touches of the subroutines. They are seen as their list; those of one are found without a walk along it.
 #[derive(Drop)]
 pub(crate) struct Table<'a> {
     rows: Seq<Row<'a>>,

@@ -1,6 +1,8 @@
 -- What of a scope is kept beside its declarations, so that nothing is compared or summed at a look-up (own), and other values of declarations.
 use Rattle.std.specs.Prelude.{◌≡◌, ℕ, suc, Bool, true, false, ◌||◌, List, [], ◌∷◌, map, Option, Some, None, option_map, is_some, if◌then◌else◌, Vec}
-use Rattle.indexmap.specs.IndexMap.{IndexMap, get_by}
+use Rattle.std.specs.Ordering.{nat_cmp}
+use Rattle.std.specs.Cmp.Lexicographic.{slice_cmp}
+use Rattle.std.specs.BTreeMap.{BTreeMap, get_by}
 use Rattle.sv_names.specs.declared.named.Named.{Named}
 use Rattle.sv_names.specs.declared.named.Named.TheVariants.{ClockingBlock}
 use Rattle.sv_names.specs.declared.name_set.NameSet.{NameSet}
@@ -14,18 +16,22 @@ use Rattle.sv_names.specs.Named.{further, local_size}
 abbrev pub names_of : List Known → List (List ℕ)
 names_of ks = map (λ k. k.name.text) ks
 
--- the position at which a name stands first
-abbrev pub first_of : List ℕ → List (List ℕ) → Option ℕ
-first_of x [] = None
-first_of x (n ∷ ns) = if same_bytes x n then Some 0 else option_map suc (first_of x ns)
+-- the position at which one of a list stands first
+abbrev pub first_at : {K : Type 0} → (K → K → Bool) → K → List K → Option ℕ
+first_at same x [] = None
+first_at same x (n ∷ ns) = if same x n then Some 0 else option_map suc (first_at same x ns)
+
+-- what a map has at a name
+abbrev pub at_name : {A X : Type 0} → List ℕ → BTreeMap (Vec ℕ A) X → Option X
+at_name x m = get_by (λ k. slice_cmp nat_cmp x k.items) m
 
 -- an index finds each name at its first position
-abbrev pub IsIndexOf : {A S : Type 0} → IndexMap (Vec ℕ A) ℕ S → List (List ℕ) → Type 0
-IsIndexOf index ns = (x : List ℕ) → get_by (λ k. same_bytes x k.items) index ≡ first_of x ns
+abbrev pub IsIndexOf : {A : Type 0} → BTreeMap (Vec ℕ A) ℕ → List (List ℕ) → Type 0
+IsIndexOf index ns = (x : List ℕ) → at_name x index ≡ first_at same_bytes x ns
 
 -- whether a set has a name
 abbrev pub has_name : NameSet → List ℕ → Bool
-has_name s x = is_some (get_by (λ k. same_bytes x k.items) s.names)
+has_name s x = is_some (at_name x s.names)
 
 -- whether it is a clocking block
 abbrev pub is_block : Checked Named → Bool

@@ -1,8 +1,10 @@
 -- Marks of paths, by which their positions are found (own).
-use Rattle.std.specs.Prelude.{◌≡◌, ℕ, suc, ◌+◌, ◌*◌, ◌%◌, ◌^◌, List, [], ◌∷◌, map, Option, Some, None, option_map, if◌then◌else◌}
+use Rattle.std.specs.Prelude.{◌≡◌, ℕ, ◌+◌, ◌*◌, ◌%◌, ◌^◌, List, [], ◌∷◌, map}
 use Rattle.std.specs.Bool.{nat_eq}
-use Rattle.indexmap.specs.IndexMap.{IndexMap, get}
+use Rattle.std.specs.Ordering.{nat_cmp}
+use Rattle.std.specs.BTreeMap.{BTreeMap, get}
 use Rattle.sv_names.specs.Types.{Path}
+use Rattle.sv_names.specs.Index.{first_at}
 
 -- a mark with a byte behind it
 abbrev pub mixed : ℕ → ℕ → ℕ
@@ -22,11 +24,6 @@ with_path m (x ∷ xs) = with_path (mixed (with_name m x) 0) xs
 abbrev pub marks_of : List Path → List ℕ
 marks_of ps = map (λ p. with_path 0 p) ps
 
--- the position at which a mark stands first
-abbrev pub first_marked : ℕ → List ℕ → Option ℕ
-first_marked m [] = None
-first_marked m (n ∷ ns) = if nat_eq m n then Some 0 else option_map suc (first_marked m ns)
-
 -- an index finds each mark at its first position
-abbrev pub Marks : {S : Type 0} → IndexMap ℕ ℕ S → List ℕ → Type 0
-Marks index ms = (m : ℕ) → get nat_eq index m ≡ first_marked m ms
+abbrev pub Marks : BTreeMap ℕ ℕ → List ℕ → Type 0
+Marks index ms = (m : ℕ) → get nat_cmp index m ≡ first_at nat_eq m ms

@@ -13,7 +13,7 @@ use std::marker::Model;
 use std::vec;
 use sv_value::{NoMemory, Seq};
 
-/// The declarations of a scope in order. They are seen as their list; a name is found in a time that does not grow with it.
+/// The declarations of a scope in order. They are seen as their list; a name is found without a walk along it.
 pub struct Declarations {
     items: Seq<Known>,
     index: NameIndex,

@@ -3,12 +3,12 @@ ghost use Rattle.std.specs.Prelude.{◌≡◌, ◌++◌, ◌∷◌, [], ℕ, Lis
 ghost use Rattle.sv_names.specs.Index.{IsIndexOf, names_of};
 
 use crate::Known;
-use indexmap::IndexMap;
 use std::alloc::Global;
+use std::collections::BTreeMap;
 use sv_value::NoMemory;
 
 /// The position of the first declaration of each name, by its bytes.
-pub(crate) type NameIndex = IndexMap<Vec<u8>, usize>;
+pub(crate) type NameIndex = BTreeMap<Vec<u8>, usize>;
 
 /// The index of the names of declarations.
 pub(crate) fn index_of(alloc: Global, known: &[Known]) -> Result<NameIndex, NoMemory>

@@ -7,7 +7,7 @@ use crate::name_index::NameIndex;
 use std::alloc::Global;
 use sv_value::NoMemory;
 
-/// Names, by their bytes. One is found in a time that does not grow with them.
+/// Names, by their bytes. One is found without a walk along them.
 pub struct NameSet {
     names: NameIndex,
 }

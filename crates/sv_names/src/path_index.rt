@@ -8,7 +8,7 @@ use std::alloc::Global;
 use std::marker::Model;
 use sv_value::{NoMemory, Seq, Text};
 
-/// Paths in order. They are seen as their list; a path is found in a time that does not grow with it.
+/// Paths in order. They are seen as their list; a path is found without a walk along it.
 pub struct PathIndex {
     paths: Seq<Path>,
     first: MarkIndex,

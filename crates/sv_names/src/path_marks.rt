@@ -3,12 +3,12 @@ ghost use Rattle.std.specs.Prelude.{◌≡◌, ◌++◌, ◌∷◌, [], ℕ, Lis
 ghost use Rattle.sv_names.specs.Marks.{Marks, marks_of, mixed, with_name, with_path};
 
 use crate::Path;
-use indexmap::IndexMap;
 use std::alloc::Global;
+use std::collections::BTreeMap;
 use sv_value::{NoMemory, Text};
 
 /// The position of the first path with each mark.
-pub(crate) type MarkIndex = IndexMap<u64, usize>;
+pub(crate) type MarkIndex = BTreeMap<u64, usize>;
 
 /// A mark with a byte behind it.
 fn mixed(mark: u64, byte: u8) -> u64

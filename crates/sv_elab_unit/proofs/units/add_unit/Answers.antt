@@ -9,4 +9,4 @@ returns-then-contains_key c us is =
 pub returns : goal.returns
 returns c us is =
     grows c.args.first.now us c.args.unit c.bytes-name.result.now c.bytes-name.ensures is c.insert.new.self c.in_ok-key.key
-    c.in_ok-key.ensures.items (sym c.contains_key.ensures ∙ c.if-contains_key.false) c.in_ok-insert.ensures.entries
+    c.in_ok-key.ensures.items (sym c.contains_key.ensures ∙ c.if-contains_key.false) c.in_ok-insert.ensures.updates

@@ -8,4 +8,4 @@ returns-then-contains_key c = λ ns long is. stays c.args.index.now ns c.args.na
 pub returns : goal.returns
 returns c = λ ns long is.
     grows c.args.index.now ns c.args.name.now is c.insert.new.self c.in_ok-key.key c.args.position c.in_ok-key.ensures.items long
-    (sym c.contains_key.ensures ∙ c.if-contains_key.false) c.in_ok-insert.ensures.entries
+    (sym c.contains_key.ensures ∙ c.if-contains_key.false) c.in_ok-insert.ensures.updates

@@ -7,5 +7,4 @@ returns-then-contains_key c = set-stays c.args.self.now c.args.name.now (sym c.c
 
 pub returns : goal.returns
 returns c =
-    set-grows c.args.self.now c.args.name.now (record { names = c.insert.new.self }) c.in_ok-key.key 0 c.in_ok-key.ensures.items
-    (sym c.contains_key.ensures ∙ c.if-contains_key.false) c.in_ok-insert.ensures.entries
+    set-grows c.args.self.now c.args.name.now (record { names = c.insert.new.self }) c.in_ok-key.key 0 c.in_ok-key.ensures.items c.in_ok-insert.ensures.updates
