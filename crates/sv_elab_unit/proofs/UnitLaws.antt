@@ -47,17 +47,17 @@ module _ {A : Type 0} (first : BTreeMap (Vec ℕ A) Definition) (us : List insta
   grows new k named absent updates x =
       ap (option_map definition_in) (updated first new k n u named updates x) ∙ by (same_bytes n x) refl
       ∙ sym (first_named-append x us (definition_in u))
-      where
-        text : (b : Bool) → same_bytes n x ≡ b → same_bytes x (name_of (definition_in u)).text ≡ b
-        text b e = ap (same_bytes x) (sym name) ∙ nat_list_eq_equiv.symm x n ∙ e
+    where
+      text : (b : Bool) → same_bytes n x ≡ b → same_bytes x (name_of (definition_in u)).text ≡ b
+      text b e = ap (same_bytes x) (sym name) ∙ nat_list_eq_equiv.symm x n ∙ e
 
-        by : (b : Bool) → same_bytes n x ≡ b → option_map definition_in (cond b (Some u) (at_name x first))
-            ≡ nearest (known x) (cond (same_bytes x (name_of (definition_in u)).text) (Some (definition_in u)) None)
-        by false e = is x ∙ sym (ap (λ b. nearest (known x) (cond b (Some (definition_in u)) None)) (text false e) ∙ nearest-none (known x))
-        by true e =
-            let none : known x ≡ None =
-                subst (λ y. known y ≡ None) ((bytes_decides n x).0 e) (sym (is n) ∙ ap (option_map definition_in) (none_of _ absent)) in
-            sym (λ j. nearest (none j) (cond (text true e j) (Some (definition_in u)) None))
+      by : (b : Bool) → same_bytes n x ≡ b → option_map definition_in (cond b (Some u) (at_name x first))
+          ≡ nearest (known x) (cond (same_bytes x (name_of (definition_in u)).text) (Some (definition_in u)) None)
+      by false e = is x ∙ sym (ap (λ b. nearest (known x) (cond b (Some (definition_in u)) None)) (text false e) ∙ nearest-none (known x))
+      by true e =
+          let none : known x ≡ None =
+          subst (λ y. known y ≡ None) ((bytes_decides n x).0 e) (sym (is n) ∙ ap (option_map definition_in) (none_of _ absent)) in
+          sym (λ j. nearest (none j) (cond (text true e j) (Some (definition_in u)) None))
 
 -- ---- one description after another
 
