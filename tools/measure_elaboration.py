@@ -139,4 +139,5 @@ def main():
                     print(f'read and refused: {best}; {best.last.replace(str(source), "FILE")}', flush=True)
 
 
-main()
+if __name__ == '__main__':
+    main()

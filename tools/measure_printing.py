@@ -59,4 +59,5 @@ def main():
             print(f'vvp: {len(others):,} records, {theirs[0]:.2f} s of processor time, {theirs[1]:.2f} s by the clock; {same:,} are the same')
 
 
-main()
+if __name__ == '__main__':
+    main()

@@ -13,6 +13,7 @@ import os
 import re
 import shutil
 import subprocess
+import sys
 import tempfile
 import time
 from collections import defaultdict
@@ -134,4 +135,6 @@ def main():
     print(f'on {os.cpu_count()} processors:', *said, sep='\n')
 
 
-main()
+if __name__ == '__main__':
+    # it takes hours, so that words which it does not know begin nothing
+    sys.exit(__doc__ if sys.argv[1:] else main())

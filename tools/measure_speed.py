@@ -118,4 +118,5 @@ def main():
                 print(f', vvp {theirs}' if theirs else '', f'; verilator {made}' if made else '', sep='', flush=True)
 
 
-main()
+if __name__ == '__main__':
+    main()
