@@ -270,6 +270,7 @@ fn itself<'a>(
         ResultVariable::Object(path, ty) => {
             let path = path.as_slice();
             let variable = object_typed(alloc, around, at, path, ty, Begin::Result)?;
+            let variable = Box::new(alloc, variable)?;
             Ok(Thing::ItsResult {
                 callee,
                 object,
@@ -280,6 +281,7 @@ fn itself<'a>(
         ResultVariable::Local { ty, .. } => {
             let (up, place) = (meaning.up, meaning.place);
             let variable = local_typed(alloc, around, at, up, place, ty, Begin::InActivation)?;
+            let variable = Box::new(alloc, variable)?;
             Ok(Thing::ItsResult {
                 callee,
                 object,

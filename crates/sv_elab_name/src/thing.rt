@@ -50,8 +50,8 @@ pub enum Thing<'a> {
         callee: &'a Callee,
         /// The object that it is called for.
         object: Option<Typed>,
-        /// Its result variable.
-        variable: Typed,
+        /// Its result variable, in memory of its own: else each thing would be twice as large, for what is named seldom.
+        variable: Box<Typed>,
         /// Its name.
         at: Place,
     },
@@ -279,7 +279,7 @@ impl<'a> Thing<'a> {
                 object: _,
                 variable,
                 at,
-            } => result_value(around, at, variable),
+            } => result_value(around, at, Box::into_inner(variable)),
             Thing::Block {
                 path: _,
                 signals: _,
@@ -338,7 +338,10 @@ impl<'a> Thing<'a> {
                 object: _,
                 variable,
                 at,
-            } => member_of_value(alloc, around, name, result_value(around, at, variable)),
+            } => {
+                let value = result_value(around, at, Box::into_inner(variable));
+                member_of_value(alloc, around, name, value)
+            }
             Thing::Signal {
                 block,
                 place: number,
@@ -411,7 +414,7 @@ impl<'a> Thing<'a> {
                 object: _,
                 variable,
                 at: _,
-            } => Ok(Some(variable)),
+            } => Ok(Some(Box::into_inner(variable))),
             Thing::Signal {
                 block,
                 place,
