@@ -5,16 +5,21 @@ ghost use Rattle.sv_flat.specs.Effects.Writes.{changed_at, value_over};
 
 use crate::Name;
 use crate::part::value_over;
+use crate::variable::Variable;
+use smallvec::SmallVec;
 use std::alloc::Global;
 use std::marker::Model;
 use sv_value::{NoMemory, Range, Val};
+
+/// Variables, of which the first two need no memory of their own: most activations have no more.
+pub type Variables = SmallVec<Variable, 2>;
 
 /// The variables of an activation, and the one around it.
 #[derive(Drop)]
 pub struct Activation {
     name: Name,
     around: Option<Name>,
-    values: Vec<Val>,
+    values: Variables,
 }
 
 impl Model for Activation {
@@ -27,7 +32,7 @@ impl Model for Activation {
 
 impl Activation {
     /// An activation with these variables.
-    pub fn new(name: Name, around: Option<Name>, values: Vec<Val>) -> Self
+    pub fn new(name: Name, around: Option<Name>, values: Variables) -> Self
         ensures { result ≡ record { name = name; around = around; values = values.items } }
     {
         Activation {
@@ -55,8 +60,8 @@ impl Activation {
     pub fn value(&self, alloc: Global, variable: u64) -> Result<Val, NoMemory>
         ensures { IfOk result (λ v. v ≡ slice_index_or self.now.values variable no_value) }
     {
-        match self.values.get(variable as usize) {
-            Some(value) => value.copy(alloc),
+        match self.values.as_slice().get(variable as usize) {
+            Some(variable) => variable.value.copy(alloc),
             None => Ok(Val::Object(None)),
         }
     }
@@ -69,15 +74,22 @@ impl Activation {
     }
 }
 
-/// Writes a value, or its part, where there is one.
-fn write_at(values: &mut Vec<Val>, variable: u32, part: Option<Range>, value: Val)
-    ensures { values.new.items ≡ changed_at values.old.items variable (λ v. value_over v part value) }
+/// Writes a value, or its part, where there is a variable.
+fn write_at(values: &mut Variables, place: u32, part: Option<Range>, value: Val)
+    ensures { values.new.items ≡ changed_at values.old.items place (λ v. value_over v part value) }
 {
-    let place = variable as usize;
-    if place < values.len() {
-        match value_over(&values[place], part, value) {
-            Some(value) => values[place] = value,
-            None => {}
-        }
+    match values.get_mut(place as usize) {
+        Some(variable) => write_over(variable, part, value),
+        None => {}
+    }
+}
+
+/// Writes a value, or its part, over that of a variable.
+fn write_over(variable: &mut Variable, part: Option<Range>, value: Val)
+    ensures { variable.new ≡ value_over variable.old part value }
+{
+    match value_over(&variable.value, part, value) {
+        Some(value) => variable.value = value,
+        None => {}
     }
 }

@@ -7,7 +7,7 @@ ghost use Rattle.sv_arena.specs.Made.{entered, next_name, with_process};
 ghost use Rattle.sv_arena.specs.Table.{place_of};
 
 use crate::Name;
-use crate::activation::Activation;
+use crate::activation::{Activation, Variables};
 use crate::arena::Arena;
 use crate::row::Row;
 use std::alloc::Global;
@@ -85,7 +85,7 @@ impl Activations {
         &mut self,
         process: ProcessId,
         around: Option<Name>,
-        values: Vec<Val>,
+        values: Variables,
     ) -> Result<(), NoMemory>
         requires known { process.0 < length self.old.made }
         requires room { length self.old.activations < 2 ^ 24 }

@@ -32,13 +32,26 @@ use sv_names::{Arg, Around, Checked, How, Refusal, Taken, Typed, answer, judged}
 use sv_tree::{Actuals, Expr, Name, Root, Suffix};
 use sv_value::{Place, Seq};
 
-/// An expression with its type.
+/// An expression with its type. Numbers and names, which come most often, stand here, and the others apart: a call clears the room for
+/// what all forms that stand in one function keep.
 #[cycle(elaborate)]
 pub fn expr(alloc: Global, e: &Expr, around: &Around) -> Result<Typed, Refusal>
     ensures { Gives result (expressions.expr (around_in around.now) (view.expr e.now)) }
 {
     match e {
         Expr::Number(at, text) => number(alloc, *at, text.bytes()),
+        Expr::Post(root, suffixes) => named(alloc, root, suffixes, around),
+        _ => apart(alloc, e, around),
+    }
+}
+
+/// The same, for all other forms.
+#[cycle(elaborate)]
+#[inline(never)]
+fn apart(alloc: Global, e: &Expr, around: &Around) -> Result<Typed, Refusal>
+    ensures { Gives result (expressions.expr (around_in around.now) (view.expr e.now)) }
+{
+    match e {
         Expr::Time(at, text) => time(alloc, &around.scale, *at, text.bytes()),
         Expr::Join(at, items) => join(alloc, *at, joined(alloc, items, around)),
         Expr::Repeat {
@@ -101,9 +114,9 @@ pub fn expr(alloc: Global, e: &Expr, around: &Around) -> Result<Typed, Refusal>
                 b,
             )
         }
-        Expr::Post(root, suffixes) => named(alloc, root, suffixes, around),
         Expr::System(name, actuals) => system(alloc, name, actuals, around),
         Expr::SuperNew { at, actuals, .. } => super_new(alloc, *at, actuals, around),
+        Expr::Number(_, _) | Expr::Post(_, _) => Err(Refusal::Memory),
     }
 }
 

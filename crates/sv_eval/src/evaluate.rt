@@ -1,6 +1,7 @@
 // The value of an expression, by its form (IEEE 1800-2017, 11).
 ghost use Rattle.std.specs.Prelude.{◌≡◌, ◌+◌, ◌&&◌, max, Ok, IfOk};
 ghost use Rattle.sv_value.specs.declared.val.Val.{Val as val};
+ghost use Rattle.sv_flat.specs.Expr.{Unary};
 ghost use Rattle.sv_flat.specs.Eval as eval;
 ghost use Rattle.sv_flat.specs.Eval.{with_both};
 ghost use Rattle.sv_eval.specs.Evaluates.{Evaluates, operation, compared_in};
@@ -13,7 +14,7 @@ use crate::operators::{binary_inside, compared, decides, truth_of_both};
 use crate::{Stopped, Values};
 use std::alloc::Global;
 use sv_flat::{Bounds, Context, Expr, ExprForm, Operands, is_in_context, operands_of};
-use sv_value::{BinOp, Bits, FaultKind, NoMemory, ObjId, Plain, Sym, Val};
+use sv_value::{BinOp, Bits, FaultKind, NoMemory, ObjId, Plain, Sym, UnOp, Val};
 
 /// What stands around a part that is no vector.
 const NO_VECTOR: Context = Context {
@@ -125,13 +126,11 @@ pub fn value_in<V: Values>(
     match &*expr.form {
         ExprForm::Literal { value, fill } => literal(context, *value, *fill),
         ExprForm::Object { object, .. } => read(context, values.object(alloc, *object, 0)),
-        ExprForm::Unary { op, operand } => {
-            if is_in_context(*op) {
-                unary_inside(*op, value_in(alloc, values, operand, context))
-            } else {
-                unary_alone(*op, context, value(alloc, values, operand))
-            }
-        }
+        ExprForm::Local { up, place, .. } => read(
+            context,
+            values.variable(alloc, *up, u64::from(*place)),
+        ),
+        ExprForm::Unary { op, operand } => unary_value(alloc, values, context, *op, operand),
         ExprForm::Binary { op, left, right } => {
             binary_value(alloc, values, context, operands_of(*op), *op, left, right)
         }
@@ -152,10 +151,6 @@ fn value_apart<V: Values>(
     match &*expr.form {
         ExprForm::Text { bytes } => copied(alloc, bytes.as_slice()),
         ExprForm::Handle { key } => Ok(Val::Object(*key)),
-        ExprForm::Local { up, place, .. } => read(
-            context,
-            values.variable(alloc, *up, u64::from(*place)),
-        ),
         ExprForm::Element {
             object,
             bounds,
@@ -257,6 +252,7 @@ fn value_apart<V: Values>(
         }
         ExprForm::Literal { .. }
         | ExprForm::Object { .. }
+        | ExprForm::Local { .. }
         | ExprForm::Unary { .. }
         | ExprForm::Binary { .. }
         | ExprForm::Field { .. }
@@ -269,8 +265,28 @@ fn value_apart<V: Values>(
     }
 }
 
+/// An operation on one operand.
+#[cycle(evaluate)]
+#[inline(never)]
+fn unary_value<V: Values>(
+    alloc: Global,
+    values: &V,
+    context: Context,
+    op: UnOp,
+    operand: &Expr,
+) -> Result<Val, Stopped>
+    ensures { Evaluates result (eval.eval (Unary op operand.now) context.width context.signed (V.view values.now)) }
+{
+    if is_in_context(op) {
+        unary_inside(op, value_in(alloc, values, operand, context))
+    } else {
+        unary_alone(op, context, value(alloc, values, operand))
+    }
+}
+
 /// An operation on its operands.
 #[cycle(evaluate)]
+#[inline(never)]
 fn binary_value<V: Values>(
     alloc: Global,
     values: &V,

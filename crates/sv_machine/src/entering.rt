@@ -11,7 +11,7 @@ ghost use Rattle.sv_machine.specs.Steps.{entering_in};
 
 use crate::machine::Machine;
 use std::alloc::Global;
-use sv_arena::Name;
+use sv_arena::{Name, Variable, Variables};
 use sv_built::{Design, Entered, Position};
 use sv_flat::{DataType, Declared, Form, first_bits};
 use sv_value::{FaultKind, Integral, NoMemory, Place, Plain, ProcessId, RunFault, Text, Val};
@@ -50,30 +50,32 @@ pub fn enter(
 }
 
 /// The first values of the variables of an activation.
-fn first_values(alloc: Global, design: &Design, entered: Entered) -> Result<Vec<Val>, NoMemory>
+fn first_values(alloc: Global, design: &Design, entered: Entered) -> Result<Variables, NoMemory>
     requires { AllByRecursion IsBuiltType (types_at design.now entered) }
     ensures { IfOk result (λ vs. vs.items ≡ map first_value (types_at design.now entered)) }
 {
     match entered {
         Entered::Block(at) => of_block(alloc, design, at),
         Entered::Index => {
-            let mut values = Vec::with_capacity(alloc, 1)?;
-            values.push(first_of(alloc, INDEX))?;
+            let mut values = Variables::with_capacity(alloc, 1)?;
+            values.push(Variable {
+                value: first_of(alloc, INDEX),
+            })?;
             Ok(values)
         }
         Entered::Hidden(at) => of_hidden(alloc, design, at),
         Entered::Call(routine) => match design.routines().get(routine.0 as usize) {
             Some(routine) => match &routine.subroutine {
                 Some(subroutine) => of_variables(alloc, subroutine.locals.as_slice()),
-                None => Ok(Vec::new(alloc)),
+                None => Ok(Variables::new(alloc)),
             },
-            None => Ok(Vec::new(alloc)),
+            None => Ok(Variables::new(alloc)),
         },
     }
 }
 
 /// Those of the variables that the block or the fork at a position declares.
-fn of_block(alloc: Global, design: &Design, at: Position) -> Result<Vec<Val>, NoMemory>
+fn of_block(alloc: Global, design: &Design, at: Position) -> Result<Variables, NoMemory>
     requires { AllByRecursion IsBuiltType (types_of_block (stmt_at design.now at)) }
     ensures { IfOk result (λ vs. vs.items ≡ map first_value (types_of_block (stmt_at design.now at))) }
 {
@@ -81,29 +83,29 @@ fn of_block(alloc: Global, design: &Design, at: Position) -> Result<Vec<Val>, No
         Some(stmt) => match &stmt.form {
             Form::Block { locals, .. } => of_variables(alloc, locals.as_slice()),
             Form::Fork { locals, .. } => of_variables(alloc, locals.as_slice()),
-            _ => Ok(Vec::new(alloc)),
+            _ => Ok(Variables::new(alloc)),
         },
-        None => Ok(Vec::new(alloc)),
+        None => Ok(Variables::new(alloc)),
     }
 }
 
 /// Those of the hidden variables of the statement at a position.
-fn of_hidden(alloc: Global, design: &Design, at: Position) -> Result<Vec<Val>, NoMemory>
+fn of_hidden(alloc: Global, design: &Design, at: Position) -> Result<Variables, NoMemory>
     requires { AllByRecursion IsBuiltType (types_hidden (stmt_at design.now at)) }
     ensures { IfOk result (λ vs. vs.items ≡ map first_value (types_hidden (stmt_at design.now at))) }
 {
     match design.body(at.routine).get(at.place) {
         Some(stmt) => of_types(alloc, stmt.hidden.as_slice()),
-        None => Ok(Vec::new(alloc)),
+        None => Ok(Variables::new(alloc)),
     }
 }
 
 /// The first values of variables.
-fn of_variables(alloc: Global, variables: &[Declared]) -> Result<Vec<Val>, NoMemory>
+fn of_variables(alloc: Global, variables: &[Declared]) -> Result<Variables, NoMemory>
     requires { AllByRecursion IsBuiltType (types_of variables.now) }
     ensures { IfOk result (λ vs. vs.items ≡ map first_value (types_of variables.now)) }
 {
-    let mut values = Vec::with_capacity(alloc, variables.len())?;
+    let mut values = Variables::with_capacity(alloc, variables.len())?;
     add_variables(alloc, variables, &mut values)?;
     Ok(values)
 }
@@ -112,7 +114,7 @@ fn of_variables(alloc: Global, variables: &[Declared]) -> Result<Vec<Val>, NoMem
 fn add_variables(
     alloc: Global,
     variables: &[Declared],
-    values: &mut Vec<Val>,
+    values: &mut Variables,
 ) -> Result<(), NoMemory>
     requires { AllByRecursion IsBuiltType (types_of variables.now) }
     ensures { OnOk result (values.new.items ≡ values.old.items ++ map first_value (types_of variables.now)) }
@@ -120,31 +122,35 @@ fn add_variables(
     match variables {
         [] => Ok(()),
         [one, rest @ ..] => {
-            values.push(first_of(alloc, one.ty))?;
+            values.push(Variable {
+                value: first_of(alloc, one.ty),
+            })?;
             add_variables(alloc, rest, values)
         }
     }
 }
 
 /// The first values of variables of these types.
-fn of_types(alloc: Global, types: &[DataType]) -> Result<Vec<Val>, NoMemory>
+fn of_types(alloc: Global, types: &[DataType]) -> Result<Variables, NoMemory>
     requires { AllByRecursion IsBuiltType types.now }
     ensures { IfOk result (λ vs. vs.items ≡ map first_value types.now) }
 {
-    let mut values = Vec::with_capacity(alloc, types.len())?;
+    let mut values = Variables::with_capacity(alloc, types.len())?;
     add_types(alloc, types, &mut values)?;
     Ok(values)
 }
 
 /// Appends the first values of variables of these types.
-fn add_types(alloc: Global, types: &[DataType], values: &mut Vec<Val>) -> Result<(), NoMemory>
+fn add_types(alloc: Global, types: &[DataType], values: &mut Variables) -> Result<(), NoMemory>
     requires { AllByRecursion IsBuiltType types.now }
     ensures { OnOk result (values.new.items ≡ values.old.items ++ map first_value types.now) }
 {
     match types {
         [] => Ok(()),
         [one, rest @ ..] => {
-            values.push(first_of(alloc, *one))?;
+            values.push(Variable {
+                value: first_of(alloc, *one),
+            })?;
             add_types(alloc, rest, values)
         }
     }

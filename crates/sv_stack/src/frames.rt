@@ -424,15 +424,16 @@ fn open_calls(stack: &[Frame], design: &Design) -> usize
     open
 }
 
-/// Whether a statement of a routine comes first, as it mostly does.
+/// Whether something is left of the entry that comes first. The rest of a routine, which comes first most often, is asked here.
 #[inline(always)]
 #[tactic(auto, using(crate::proofs::FrameLemmas::settled_first, crate::proofs::FrameLemmas::more_rest))]
-fn is_at_statement(frames: &Frames, design: &Design) -> bool
+fn is_settled(frames: &Frames, design: &Design) -> bool
     ensures { result ≡ true → IsSettled design.now frames.now }
 {
     match frames.innermost() {
         Some(Frame::Rest { at, .. }) => at.place < design.body(at.routine).len(),
-        _ => false,
+        Some(top) => is_live(top, design),
+        None => false,
     }
 }
 
@@ -442,7 +443,7 @@ fn settle(frames: &mut Frames, design: &Design)
     ensures same { todos_of design.now frames.new ≡ todos_of design.now frames.old }
     ensures settled { IsSettled design.now frames.new }
 {
-    if is_at_statement(frames, design) {
+    if is_settled(frames, design) {
         return;
     }
     drop_done(frames, design);

@@ -22,14 +22,14 @@ use Rattle.sv_elab_expr.specs.Walk.{stepped}
 use Rattle.sv_elab_expr.proofs.WalkLaws.{ok_mapped, end_of_list, left_after, thing_after, before_after, select_made}
 use Rattle.sv_elab_expr.proofs.table.+elaborate.Goals as goal
 
-pub expr-returns-in-Join : goal.expr-returns-in-Join
-expr-returns-in-Join t c =
+pub apart-returns-in-Join : goal.apart-returns-in-Join
+apart-returns-in-Join t c =
     let parts = parts_of (expressions.args (around_in c.args.around.now) [] (expr_list c.deref.result.now)) in
     let whole : expr c.args.e.now ≡ tree.Join c.in-Join.at (expr_list c.deref.result.now) = search (rules, the_lemmas, exprs_are) in
     subst (λ (e : tree.Expr). Gives c.join.result (expressions.expr (around_in c.args.around.now) e)) (sym whole) (c.join.ensures parts c.joined.ensures)
 
-pub expr-returns-in-Repeat : goal.expr-returns-in-Repeat
-expr-returns-in-Repeat t c =
+pub apart-returns-in-Repeat : goal.apart-returns-in-Repeat
+apart-returns-in-Repeat t c =
     let ar = around_in c.args.around.now in
     let parts = parts_of (expressions.args ar [] (expr_list c.deref-in-Repeat-3.result.now)) in
     let part = c.join-part.ensures parts c.joined-in-Repeat.ensures in
@@ -41,7 +41,7 @@ expr-returns-in-Repeat t c =
 
 pub expr-returns-in-Post : goal.expr-returns-in-Post
 expr-returns-in-Post t c =
-    let whole : expr c.args.e.now ≡ tree.Post c.in-Post.root (suffix_list c.deref-in-Post.result.now) = search (rules, the_lemmas, suffixes_are) in
+    let whole : expr c.args.e.now ≡ tree.Post c.in-Post.root (suffix_list c.deref.result.now) = search (rules, the_lemmas, suffixes_are) in
     subst (λ (e : tree.Expr). Gives c.named.result (expressions.expr (around_in c.args.around.now) e)) (sym whole) c.named.ensures
 
 pub actual_args-returns-in-Written-clause-ok : goal.actual_args-returns-in-Written-clause-ok

@@ -3,6 +3,12 @@ use Rattle.sv_flat.specs.Expr.{expr_size}
 use Rattle.sv_flat.specs.ExprView.{of_form}
 use Rattle.sv_eval.proofs.evaluate.+evaluate.Goals as goal
 
+pub value_in-unary_value-requires : goal.value_in-unary_value-requires
+value_in-unary_value-requires g t c κs within =
+    let is = sym c.expr.view_is ∙ ap of_form (sym c.deref.ensures ∙ c.in-Unary.is) in
+    let size : expr_size c.args.expr.now ≡ expr_size c.in-Unary.operand + 1 = ap expr_size is in
+    (omega (arith, c.decreases, size), search rules)
+
 pub value_in-binary_value-requires : goal.value_in-binary_value-requires
 value_in-binary_value-requires g t c κs within =
     let is = sym c.expr.view_is ∙ ap of_form (sym c.deref.ensures ∙ c.in-Binary.is) in

@@ -11,6 +11,9 @@ decreases-value_in g l = 4 * expr_size l.expr.now + 1
 abbrev pub decreases-value_apart : goal.decreases-value_apart
 decreases-value_apart g l = 4 * expr_size l.expr.now
 
+abbrev pub decreases-unary_value : goal.decreases-unary_value
+decreases-unary_value g l = 4 * expr_size l.operand.now + 3
+
 abbrev pub decreases-binary_value : goal.decreases-binary_value
 decreases-binary_value g l = 4 * (expr_size l.left.now + expr_size l.right.now) + 3
 
