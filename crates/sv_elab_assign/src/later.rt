@@ -21,7 +21,9 @@ use std::alloc::Global;
 use sv_elab_call::sv_elab_select::{Spot, lvalues, type_of_target};
 use sv_elab_value::{assigned, exactly, paired};
 use sv_flat::{Expr, Form, Lvalue};
-use sv_names::{Around, Begin, Checked, Hoisted, Refusal, Ty, Typed, answer, both, where_also};
+use sv_names::{
+    Around, AsTarget, Begin, Checked, Hoisted, Refusal, Ty, Typed, answer, both, where_also,
+};
 use sv_value::{ClockId, Place, Seq};
 
 // ---- drives
@@ -36,11 +38,11 @@ pub(crate) struct Driven {
 }
 
 /// The signal that a target begins with.
-fn signal_of(around: &Around, begins: &Begin) -> Option<Driven>
-    ensures { result ≡ forms.signal_of (around_in around.now) begins.now }
+fn signal_of(around: &Around, target: &AsTarget) -> Option<Driven>
+    ensures { result ≡ forms.signal_of (around_in around.now) target.now.begins }
 {
-    match begins {
-        Begin::Signal { block, place, .. } => Some(Driven {
+    match target.begins() {
+        Some(Begin::Signal { block, place, .. }) => Some(Driven {
             clock: around.numbers.clocking(block.as_slice()),
             signal: *place,
         }),
@@ -53,7 +55,7 @@ fn signal_of_target(around: &Around, spots: &[Spot]) -> Option<Driven>
     ensures { result ≡ forms.signal_of (around_in around.now) (assignments.begin_of spots.now) }
 {
     match spots {
-        [spot] => signal_of(around, &spot.1.target.begins),
+        [spot] => signal_of(around, &spot.1.target),
         _ => None,
     }
 }

@@ -67,7 +67,7 @@ fn key_of(alloc: Global, ty: &Ty) -> Result<Ty, NoMemory>
     ensures { IfOk result (λ t. t ≡ types.key_of ty.now) }
 {
     match ty {
-        Ty::Assoc(key, _) => key.as_type(alloc),
+        Ty::Assoc(key, _) => key.get().as_type(alloc),
         _ => Ok(int_type()),
     }
 }

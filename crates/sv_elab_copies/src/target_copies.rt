@@ -4,7 +4,7 @@ ghost use Rattle.std.specs.Prelude.{◌≡◌, IfOk};
 use crate::{copy_code, copy_expr, copy_optional};
 use std::alloc::Global;
 use sv_flat::{Base, Container, Part};
-use sv_names::{Begin, Target, Typed, copy_path};
+use sv_names::{AsTarget, Begin, Target, Typed, copy_path};
 use sv_value::{NoMemory, Place, Seq};
 
 /// The same bits of a target.
@@ -168,13 +168,26 @@ pub fn copy_target(alloc: Global, target: &Target) -> Result<Target, NoMemory>
     })
 }
 
+/// The same as a target, in memory of its own.
+fn copy_as_target(alloc: Global, target: &AsTarget) -> Result<AsTarget, NoMemory>
+    ensures { IfOk result (λ t. t ≡ target.now) }
+{
+    match target.get() {
+        Some(target) => {
+            let copy = copy_target(alloc, target)?;
+            AsTarget::new(alloc, copy)
+        }
+        None => Ok(AsTarget::none()),
+    }
+}
+
 /// The same expression with its type, in memory of its own.
 pub fn copy_typed(alloc: Global, t: &Typed) -> Result<Typed, NoMemory>
     ensures { IfOk result (λ c. c ≡ t.now) }
 {
     let ty = t.ty.copy(alloc)?;
     let code = copy_code(alloc, &t.code)?;
-    let target = copy_target(alloc, &t.target)?;
+    let target = copy_as_target(alloc, &t.target)?;
     Ok(Typed {
         ty,
         at: t.at,

@@ -1,17 +1,26 @@
 -- Elaboration, step by step.
-use Rattle.std.proofs.Common.{◌≡◌, ◌∙◌, [], ◌∷◌, map, ap, sym, subst}
+use Rattle.std.proofs.Common.{◌≡◌, ◌∙◌, ℕ, Bool, List, [], ◌∷◌, map, ap, sym, subst}
 use Rattle.std.specs.Prelude.{Result, Ok, Err, IsErrAnd}
 use Rattle.sv_flat.specs.declared.design.Scale.{Scale}
+use Rattle.sv_tree.specs.Descriptions.{Description}
 use Rattle.sv_names.specs.declared.around.Around as code_around
 use Rattle.sv_names.specs.declared.checked.Checked.{Checked}
+use Rattle.sv_names.specs.declared.numbers.Numbers as code_numbers
 use Rattle.sv_names.specs.declared.refusal.Refusal.{Refusal}
 use Rattle.sv_names.specs.declared.refusal.Refusal.TheVariants.{Rule, Memory}
 use Rattle.sv_names.specs.Checked.{given, ◌▷◌}
+use Rattle.sv_names.specs.Design.{foreseen, same_paths}
 use Rattle.sv_names.specs.Given.{Fails, Gives}
 use Rattle.sv_names.specs.Groups.{Group}
-use Rattle.sv_names.specs.Instances.{nowhere_around, file_around}
+use Rattle.sv_names.specs.Instances.{Walked, nowhere_around, file_around}
+use Rattle.sv_names.specs.Items.{GivenParts}
 use Rattle.sv_names.specs.Types.{Numbers}
 use Rattle.sv_names.specs.Views.{around_in}
+use Rattle.sv_elab_parts.specs.declared.so_far.SoFar.{SoFar}
+use Rattle.sv_elab_whole.specs.Collected.{IsGiven}
+use Rattle.sv_elab_whole.specs.Numbering.{IsForeseen, paths_so_far, plain_paths}
+use Rattle.sv_elab_whole.proofs.NumberLaws.{paths_given}
+use Rattle.sv_elab_design.specs.Elaborating.{paths}
 
 -- what is seen outside units is what is seen nowhere, with the scope and the classes of the files
 pub files_seen : (ns : Numbers) (s : Scale) (g : Group) (outer seen : code_around.Around) → around_in outer ≡ nowhere_around ns s
@@ -34,3 +43,10 @@ fails_then go x Memory fails = tt
 pub stopped : {A : Type 0} (r : Result A Refusal) (x : Checked A) → IsErrAnd r (λ e. e ≡ Memory) → Gives r x
 stopped (Ok a) x is = absurd is
 stopped (Err e) x is = subst (λ f. Fails f x) (sym is) tt
+
+-- the paths that the code compares are those that the definition compares
+pub foreseen_is : (us : List Description) (ws : List Walked) (ns : code_numbers.Numbers) (n : ℕ) (x : SoFar) (gs : List GivenParts) (b : Bool)
+    → IsForeseen us ws ns → IsGiven n x gs → b ≡ same_paths (plain_paths ns.objects ns.subroutines) (paths_so_far x)
+    → same_paths (foreseen us ws) (paths gs) ≡ b
+foreseen_is us ws ns n x gs b seen given is =
+    sym (is ∙ (λ j. same_paths (plain_paths (seen.objects j) (seen.subroutines j)) (paths_given n x gs given j)))

@@ -1,5 +1,5 @@
 // From trees to the flat design, or to the first rule that they break (IEEE 1800-2017, 3.12 and 23.3).
-ghost use Rattle.std.specs.Prelude.{◌≡◌, ◌∷◌, [], ℕ, List, IfOk, map, option_map};
+ghost use Rattle.std.specs.Prelude.{◌≡◌, ◌∷◌, [], ℕ, List, IfOk, length, map, option_map};
 ghost use Rattle.sv_tree.specs.UnitView.{description};
 ghost use Rattle.sv_names.specs.declared.checked.Checked.{Checked as checked};
 ghost use Rattle.sv_names.specs.Checked.{◌where_also◌};
@@ -11,6 +11,7 @@ ghost use Rattle.sv_names.specs.Views.{around_in, numbers_in};
 ghost use Rattle.sv_elab_scope.specs.Rows.{group_in};
 ghost use Rattle.sv_elab_walk.specs.Insts.{walked_in};
 ghost use Rattle.sv_elab_whole.specs.Collected.{GivesParts, IsGiven};
+ghost use Rattle.sv_elab_whole.specs.Numbering.{IsForeseen};
 ghost use Rattle.sv_elab_design.specs.Elaborating as words;
 
 use std::alloc::Global;
@@ -21,8 +22,8 @@ use sv_elab_scope::Group;
 use sv_elab_unit::{Units, roots};
 use sv_elab_walk::{Walked, walked};
 use sv_elab_whole::{
-    all_met_stand, classes_in, classes_of, file_group, instances_in, no_numbers, nowhere,
-    numbers_of, parts_from, programs_in, scale_of, scales_agree, scopes_of,
+    all_met_stand, classes_in, classes_of, file_group, foreseen_numbers, instances_in, is_foreseen,
+    no_numbers, nowhere, numbers_of, parts_from, programs_in, scale_of, scales_agree, scopes_of,
 };
 use sv_flat::{Parts, Scale};
 use sv_names::{Around, Dollar, Numbers, Refusal, Returns, answer, first, where_also};
@@ -81,20 +82,29 @@ fn and_met(given: Result<SoFar, Refusal>, met: Result<(), Refusal>) -> Result<So
     }
 }
 
-/// What all items give without numbers, and the rules on writers and limits beside it.
-fn given_first<'f>(
+/// What all items give with these numbers, where so many subroutines are to come.
+fn given_by(
     alloc: Global,
     units: &Units,
-    files: &'f Around<'f>,
+    scale: Scale,
     group: &Group,
-    walked: &'f [Walked],
+    walked: &[Walked],
+    numbers: &Numbers,
+    places: usize,
 ) -> Result<SoFar, Refusal>
-    ensures { GivesParts 0 result
-        (words.given_guarded (map description units.now) (around_in files.now) (group_in group.now) (map walked_in walked.now)) }
+    ensures { GivesParts places result (design.given_parts (map description units.now)
+        (instances.file_around (numbers_in numbers.now) scale (group_in group.now)) (group_in group.now) (map walked_in walked.now)) }
 {
-    let given = given_with(alloc, units, files, group, walked, 0);
-    let met = all_met_stand(alloc, units.all(), files, group, walked);
-    and_met(given, met)
+    let (dollar, returns) = (Dollar::NoDollar, Returns::Outside);
+    let outer = nowhere(numbers, scale, &dollar, &returns);
+    let scopes = scopes_of(alloc, group)?;
+    let classes = classes_of(alloc, group)?;
+    let files = Around {
+        scopes: scopes.as_slice(),
+        classes: classes.as_slice(),
+        ..outer
+    };
+    given_with(alloc, units, &files, group, &*walked, places)
 }
 
 /// The design of what was given, behind so many places.
@@ -106,7 +116,7 @@ fn finished(
     given: SoFar,
 ) -> Result<Parts, NoMemory>
     ensures { IfOk result (λ p. (gs : List given_parts) → IsGiven places given gs
-        → p ≡ words.finished scale (map walked_in walked.now) places gs) }
+        → p ≡ design.finished scale (map walked_in walked.now) places gs) }
 {
     let instances = instances_in(alloc, walked)?;
     let parts = parts_from(alloc, scale, instances, places, given)?;
@@ -114,14 +124,14 @@ fn finished(
     Ok(watched)
 }
 
-/// The numbers of what was given without numbers.
+/// The numbers of the parts that were given.
 fn numbers_over(
     alloc: Global,
     group: &Group,
     walked: &[Walked],
     first: SoFar,
 ) -> Result<Numbers, NoMemory>
-    ensures { IfOk result (λ n. (gs : List given_parts) → IsGiven 0 first gs
+    ensures { IfOk result (λ n. (places : ℕ) (gs : List given_parts) → IsGiven places first gs
         → numbers_in n ≡ words.numbers_over (group_in group.now) (map walked_in walked.now) gs) }
 {
     let classes = classes_in(alloc, group, walked)?;
@@ -130,7 +140,7 @@ fn numbers_over(
     Ok(numbers)
 }
 
-/// The design with the numbers that its parts have, where these were given without numbers.
+/// The design with the numbers that its parts have, where these were given first with other numbers.
 fn numbered(
     alloc: Global,
     units: &Units,
@@ -139,26 +149,40 @@ fn numbered(
     walked: &[Walked],
     first: SoFar,
 ) -> Result<Parts, Refusal>
-    ensures { (gs : List given_parts) → IsGiven 0 first gs
-        → Gives result (words.numbered scale (map description units.now) (group_in group.now) (map walked_in walked.now) gs) }
+    ensures { (n : ℕ) (gs : List given_parts) → IsGiven n first gs → Gives result
+        (design.numbered scale (map description units.now) (group_in group.now) (map walked_in walked.now) (words.paths gs)) }
 {
     let places = first.subroutine_paths.as_slice().len();
     let numbers = numbers_over(alloc, group, walked, first)?;
-    let (dollar, returns) = (Dollar::NoDollar, Returns::Outside);
-    let outer = nowhere(&numbers, scale, &dollar, &returns);
-    let scopes = scopes_of(alloc, group)?;
-    let classes = classes_of(alloc, group)?;
-    let files = Around {
-        scopes: scopes.as_slice(),
-        classes: classes.as_slice(),
-        ..outer
-    };
-    match given_with(alloc, units, &files, group, &*walked, places) {
+    match given_by(alloc, units, scale, group, walked, &numbers, places) {
         Ok(given) => {
             let parts = finished(alloc, scale, walked, places, given)?;
             Ok(parts)
         }
         Err(e) => Err(e),
+    }
+}
+
+/// The design of what was given with the numbers that are foreseen, where its parts have these; else all is given once more.
+fn numbered_well(
+    alloc: Global,
+    units: &Units,
+    scale: Scale,
+    group: &Group,
+    walked: &[Walked],
+    numbers: &Numbers,
+    first: SoFar,
+) -> Result<Parts, Refusal>
+    ensures { IsForeseen (map description units.now) (map walked_in walked.now) numbers.now
+        → (gs : List given_parts) → IsGiven (length numbers.now.subroutines) first gs
+        → Gives result (words.numbered_well scale (map description units.now) (group_in group.now) (map walked_in walked.now) gs) }
+{
+    let (objects, subroutines) = (numbers.objects.paths(), numbers.subroutines.paths());
+    if is_foreseen(objects, subroutines, &first) {
+        let parts = finished(alloc, scale, walked, subroutines.len(), first)?;
+        Ok(parts)
+    } else {
+        numbered(alloc, units, scale, group, walked, first)
     }
 }
 
@@ -174,8 +198,12 @@ fn design_over<'f>(
     ensures { around_in files.now ≡ instances.file_around design.no_numbers scale (group_in group.now)
         → Gives result (design.design_over scale (map description units.now) (group_in group.now) (map walked_in walked.now)) }
 {
-    match given_first(alloc, units, files, group, walked) {
-        Ok(first) => numbered(alloc, units, scale, group, walked, first),
+    let numbers = foreseen_numbers(alloc, units.all(), walked)?;
+    let places = numbers.subroutines.paths().len();
+    let given = given_by(alloc, units, scale, group, walked, &numbers, places);
+    let met = all_met_stand(alloc, units.all(), files, group, walked);
+    match and_met(given, met) {
+        Ok(first) => numbered_well(alloc, units, scale, group, walked, &numbers, first),
         Err(e) => Err(e),
     }
 }

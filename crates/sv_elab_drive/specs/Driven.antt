@@ -1,6 +1,7 @@
 -- Targets that drive nets.
-use Rattle.std.specs.Prelude.{List, [], ◌∷◌, Option, Some, None, if◌then◌else◌}
+use Rattle.std.specs.Prelude.{ℕ, List, [], ◌∷◌, Option, Some, None, if◌then◌else◌}
 use Rattle.sv_flat.specs.declared.target.Base.{Base}
+use Rattle.sv_names.specs.declared.typed.Target.{Target}
 use Rattle.sv_names.specs.declared.typed.Typed.{Typed}
 use Rattle.sv_names.specs.Clockings.{times_in}
 use Rattle.sv_names.specs.Connections.{net_driven, nets_driven, as_driver}
@@ -21,6 +22,10 @@ nets_of ss = nets_driven [] ss
 abbrev pub driven_base : List Path → List Path → Base → Base
 driven_base before [] b = b
 driven_base before (p ∷ ps) b = as_driver (times_in p before) b
+
+-- a target that is the driver of this number
+abbrev pub as_numbered : ℕ → Target → Target
+as_numbered k t = record t { base = as_driver k t.base }
 
 -- the same expression, which writes to this
 abbrev pub with_base : Base → Typed → Typed

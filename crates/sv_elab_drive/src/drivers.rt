@@ -6,18 +6,19 @@ ghost use Rattle.sv_names.specs.Writers as writers;
 ghost use Rattle.sv_elab_drive.specs.Driven as driven;
 
 use std::alloc::Global;
+use std::mem;
 use sv_elab_drives::Drives;
 use sv_elab_select::Spot;
 use sv_flat::Base;
-use sv_names::{Begin, Path, copy_path, same_path};
+use sv_names::{AsTarget, Begin, Path, copy_path, same_path};
 use sv_value::{NoMemory, Seq, Text};
 
 /// The net that a part of a target drives.
 fn net_driven(spot: &Spot) -> Option<&[Text]>
     ensures { driven.paths_of (option_map (λ p. p.now) result) ≡ connections.net_driven spot.now }
 {
-    match &spot.1.target.begins {
-        Begin::Net(path) => Some(path.as_slice()),
+    match spot.1.target.begins() {
+        Some(Begin::Net(path)) => Some(path.as_slice()),
         _ => None,
     }
 }
@@ -105,16 +106,26 @@ fn set_driver(number: u32, base: &mut Base)
     }
 }
 
+/// A target, which is written to as the driver of this number.
+fn as_driver(alloc: Global, number: u32, target: AsTarget) -> Result<AsTarget, NoMemory>
+    ensures { IfOk result (λ t. t ≡ driven.as_numbered number target) }
+{
+    let mut target = target.into_box(alloc)?;
+    set_driver(number, &mut target.base);
+    Ok(AsTarget::from_box(target))
+}
+
 /// Turns a part of a target, which drives its net behind these drivers.
 #[tactic(auto, using(crate::proofs::CountLaws::drives_none, crate::proofs::CountLaws::drives_net))]
-fn drive(before: &Drives, spot: &mut Spot) -> Result<(), NoMemory>
+fn drive(alloc: Global, before: &Drives, spot: &mut Spot) -> Result<(), NoMemory>
     ensures { OnOk result (spot.new ≡ driven.driving before.now spot.old) }
 {
     match net_driven(spot) {
         None => Ok(()),
         Some(path) => {
             let number = before.times(path)?;
-            set_driver(number, &mut spot.1.target.base);
+            let target = mem::replace(&mut spot.1.target, AsTarget::none());
+            spot.1.target = as_driver(alloc, number, target)?;
             Ok(())
         }
     }
@@ -127,7 +138,7 @@ pub fn all_driving(alloc: Global, before: &Drives, spots: Seq<Spot>) -> Result<S
     let mut done = Seq::new(alloc);
     for spot in spots.into_vec() {
         let mut spot = spot;
-        drive(before, &mut spot)?;
+        drive(alloc, before, &mut spot)?;
         done.push(spot)?;
     }
     Ok(done)

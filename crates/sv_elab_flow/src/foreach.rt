@@ -45,7 +45,7 @@ fn key_of(alloc: Global, ty: &Ty) -> Result<Ty, Refusal>
 {
     match ty {
         Ty::Assoc(key, _) => {
-            let key = key.as_type(alloc)?;
+            let key = key.get().as_type(alloc)?;
             Ok(key)
         }
         _ => Ok(int_type()),

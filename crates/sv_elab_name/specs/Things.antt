@@ -12,7 +12,7 @@ use Rattle.sv_names.specs.Things.{Thing, A_value, A_subroutine, A_method, Its_re
 abbrev pub thing_in : code.Thing → Thing
 thing_in (thing.Value t) = A_value t
 thing_in (thing.Subroutine c o direct at) = A_subroutine c.now o direct at
-thing_in (thing.Method m o at) = A_method m o at
+thing_in (thing.Method m o at) = A_method m o.value at
 thing_in (thing.ItsResult c o v at) = Its_result c.now o v.value at
 thing_in (thing.Block p ss at) = A_block p.now ss.now at
 thing_in (thing.Signal b i s at) = The_signal b.now i s.now at

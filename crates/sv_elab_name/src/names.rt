@@ -183,8 +183,8 @@ fn class_name<'a>(alloc: Global, at: Place, class: &[Text]) -> Result<Thing<'a>,
 fn is_at_hand(object: &Typed) -> bool
     ensures { things.not_at_hand (Some object.now) ≡ (if result then None else Some object.now) }
 {
-    match &object.target.begins {
-        Begin::Object => true,
+    match object.target.begins() {
+        Some(Begin::Object) => true,
         _ => false,
     }
 }

@@ -1,9 +1,7 @@
 // What a name with suffixes begins with (IEEE 1800-2017, 8.11, 8.15, 8.23 and 23.9): E6, E7, E36 to E39.
 ghost use Rattle.std.specs.Prelude.{◌≡◌, true};
-ghost use Rattle.sv_names.specs.declared.checked.Checked.{Checked as checked};
-ghost use Rattle.sv_names.specs.declared.named.Named.{Named as named};
-ghost use Rattle.sv_names.specs.Checked.{◌where_also◌, ◌▷◌};
-ghost use Rattle.sv_names.specs.Given.{Gives, GivesAs};
+ghost use Rattle.sv_names.specs.Checked.{◌▷◌};
+ghost use Rattle.sv_names.specs.Given.{GivesAs};
 ghost use Rattle.sv_names.specs.Things as things;
 ghost use Rattle.sv_names.specs.Views.{around_in, meaning_in};
 ghost use Rattle.sv_tree.specs.declared.expr.Root.TheVariants as root;
@@ -13,36 +11,15 @@ use crate::{
     Thing, at_hand, base_of, class_named, member_named, named_thing, object_of, this_typed,
 };
 use std::alloc::Global;
-use sv_names::{Around, Meaning, Refusal, first};
+use sv_names::{Around, Meaning, Refusal};
 use sv_tree::{Name, Root};
 use sv_value::Place;
-
-/// What a name stands for, where it is declared as what its place takes; else the earlier of the two rules.
-fn guarded<'a>(
-    meaning: Result<Meaning<'a>, Refusal>,
-    stands: Result<(), Refusal>,
-) -> Result<Meaning<'a>, Refusal>
-    ensures { (x : checked named) (y : checked (Unit {0})) → GivesAs meaning_in meaning.entry x → Gives stands y
-        → GivesAs meaning_in result (x where_also y) }
-{
-    match meaning {
-        Ok(meaning) => match stands {
-            Ok(()) => Ok(meaning),
-            Err(e) => Err(e),
-        },
-        Err(e) => match stands {
-            Ok(()) => Err(e),
-            Err(f) => Err(first(e, f)),
-        },
-    }
-}
 
 /// A name alone.
 fn plain<'a>(alloc: Global, around: &Around<'a>, name: &Name) -> Result<Thing<'a>, Refusal>
     ensures { GivesAs thing_in result (things.root_thing (around_in around.now) (root.Plain name.now)) }
 {
-    let stands = around.value_stands(7, name.at, name.text.bytes());
-    match guarded(around.meaning(name), stands) {
+    match around.value_meaning(name) {
         Ok(meaning) => named_thing(alloc, around, name.at, meaning),
         Err(e) => Err(e),
     }
@@ -105,8 +82,7 @@ fn scoped<'a>(
 ) -> Result<Thing<'a>, Refusal>
     ensures { GivesAs thing_in result (things.root_thing (around_in around.now) (root.Scoped scope.now name.now)) }
 {
-    let stands = around.type_stands(7, scope.at, scope.text.bytes());
-    match guarded(around.meaning(scope), stands) {
+    match around.type_meaning(scope) {
         Ok(meaning) => of_scope(alloc, around, scope, name, meaning),
         Err(e) => Err(e),
     }

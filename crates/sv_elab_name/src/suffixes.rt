@@ -27,11 +27,14 @@ fn method_member<'a>(alloc: Global, name: &Name, object: Typed) -> Result<Thing<
             rule: 36,
             at: name.at,
         }),
-        Some(method) => Ok(Thing::Method {
-            method,
-            object,
-            at: name.at,
-        }),
+        Some(method) => {
+            let object = Box::new(alloc, object)?;
+            Ok(Thing::Method {
+                method,
+                object,
+                at: name.at,
+            })
+        }
     }
 }
 

@@ -39,8 +39,9 @@ pub enum Thing<'a> {
     Method {
         /// What it does.
         method: Method,
-        /// What it is called for.
-        object: Typed,
+        /// What it is called for, in memory of its own, as the result variable of a function is: else each thing would be larger, for
+        /// what is named seldom.
+        object: Box<Typed>,
         /// Its name.
         at: Place,
     },
@@ -379,7 +380,10 @@ impl<'a> Thing<'a> {
                 method,
                 object,
                 at: _,
-            } => C::method_called(alloc, around, place, is_value, method, object, args),
+            } => {
+                let object = Box::into_inner(object);
+                C::method_called(alloc, around, place, is_value, method, object, args)
+            }
             Thing::ItsResult {
                 callee,
                 object,

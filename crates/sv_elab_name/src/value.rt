@@ -70,12 +70,12 @@ pub fn signal_read(
 // ---- result variables
 
 /// Whether a result variable is one of the activation.
-fn is_in_activation(begins: &Begin) -> bool
-    ensures { (ar : around_of) (at : place_of) (v : typed) → things.result_value ar at v begins.now
+fn is_in_activation(variable: &Typed) -> bool
+    ensures { (ar : around_of) (at : place_of) (v : typed) → things.result_value ar at v variable.now.target.begins
         ≡ (if result then (if ar.is_initial then broken_at 7 at else things.lasts ar at ▷ (λ _. Good v)) else Good v) }
 {
-    match begins {
-        Begin::InActivation => true,
+    match variable.target.begins() {
+        Some(Begin::InActivation) => true,
         _ => false,
     }
 }
@@ -84,7 +84,7 @@ fn is_in_activation(begins: &Begin) -> bool
 pub(crate) fn result_value(around: &Around, at: Place, variable: Typed) -> Result<Typed, Refusal>
     ensures { Gives result (things.result_value (around_in around.now) at variable variable.target.begins) }
 {
-    if !is_in_activation(&variable.target.begins) {
+    if !is_in_activation(&variable) {
         return Ok(variable);
     }
     if around.is_initial {
@@ -141,11 +141,12 @@ pub(crate) fn bare_method<C: Calls>(
     around: &Around,
     place: Place,
     method: Method,
-    object: Typed,
+    object: Box<Typed>,
 ) -> Result<Typed, Refusal>
     ensures { Gives result (things.bare_call (around_in around.now) place
-        (calls.method_called (around_in around.now) place true method object [])) }
+        (calls.method_called (around_in around.now) place true method object.value [])) }
 {
+    let object = Box::into_inner(object);
     let nothing = Seq::new(alloc);
     let c = C::method_called(alloc, around, place, true, method, object, nothing);
     given_by::<C>(alloc, around, place, c)

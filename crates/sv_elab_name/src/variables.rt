@@ -12,15 +12,15 @@ use std::alloc::Global;
 use sv_elab_copies::{copy_code, copy_expr};
 use sv_elab_value::{code_of, expr_of, paired, pure};
 use sv_flat::{Base, DataType, Expr, ExprForm};
-use sv_names::{Around, Begin, Hoisted, Refusal, Target, Ty, Typed, copy_path};
+use sv_names::{Around, AsTarget, Begin, Hoisted, Refusal, Target, Ty, Typed, copy_path};
 use sv_tree::Name;
-use sv_value::{ObjId, Place, Seq, Text};
+use sv_value::{NoMemory, ObjId, Place, Seq, Text};
 
 /// A target that begins so.
-fn begun(alloc: Global, begins: Begin, whole: Ty, base: Base) -> Target
-    ensures { result ≡ things.begun begins whole base }
+fn begun(alloc: Global, begins: Begin, whole: Ty, base: Base) -> Result<AsTarget, NoMemory>
+    ensures { IfOk result (λ t. t ≡ things.begun begins whole base) }
 {
-    Target {
+    let target = Target {
         begins,
         through: None,
         base,
@@ -28,7 +28,8 @@ fn begun(alloc: Global, begins: Begin, whole: Ty, base: Base) -> Target
         whole,
         is_item: false,
         moving: Seq::new(alloc),
-    }
+    };
+    AsTarget::new(alloc, target)
 }
 
 /// E51: what is printed later names no variable of an activation, no property and no static member.
@@ -75,12 +76,13 @@ pub fn object_typed(
     let code = object_code(alloc, at, object, data)?;
     let whole = ty.copy(alloc)?;
     let ty = ty.copy(alloc)?;
+    let target = begun(alloc, begins, whole, Base::Object(object))?;
     Ok(Typed {
         ty,
         at,
         code,
         is_constant: false,
-        target: begun(alloc, begins, whole, Base::Object(object)),
+        target,
     })
 }
 
@@ -113,12 +115,13 @@ pub fn local_typed(
     let code = local_code(alloc, up, place, data)?;
     let whole = ty.copy(alloc)?;
     let ty = ty.copy(alloc)?;
+    let target = begun(alloc, begins, whole, Base::Local { up, place })?;
     Ok(Typed {
         ty,
         at,
         code,
         is_constant: false,
-        target: begun(alloc, begins, whole, Base::Local { up, place }),
+        target,
     })
 }
 
@@ -171,7 +174,7 @@ pub fn field_typed(
         object: reference,
         place,
     };
-    let target = begun(alloc, Begin::InActivation, whole, base);
+    let target = begun(alloc, Begin::InActivation, whole, base)?;
     let code = field_code(alloc, place, data, code_of(object))?;
     Ok(Typed {
         ty,
@@ -243,20 +246,22 @@ fn static_through(
     let through = copy_expr(alloc, &reference.value)?;
     let member = object_code(alloc, at, object, data)?;
     let code = static_code(alloc, reference, member)?;
+    let target = Target {
+        begins,
+        through: Some(through),
+        base: Base::Object(object),
+        part: None,
+        whole,
+        is_item: false,
+        moving: Seq::new(alloc),
+    };
+    let target = AsTarget::new(alloc, target)?;
     Ok(Typed {
         ty,
         at,
         code,
         is_constant: false,
-        target: Target {
-            begins,
-            through: Some(through),
-            base: Base::Object(object),
-            part: None,
-            whole,
-            is_item: false,
-            moving: Seq::new(alloc),
-        },
+        target,
     })
 }
 
@@ -279,12 +284,13 @@ pub(crate) fn constant_named(
     } else {
         Begin::Item
     };
+    let target = begun(alloc, begins, Ty::Text, Base::Object(ObjId(0)))?;
     Ok(Typed {
         ty,
         at,
         code,
         is_constant: t.is_constant,
-        target: begun(alloc, begins, Ty::Text, Base::Object(ObjId(0))),
+        target,
     })
 }
 

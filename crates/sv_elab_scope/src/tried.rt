@@ -2,28 +2,12 @@
 ghost use Rattle.std.specs.Prelude.{◌≡◌, IfOk};
 ghost use Rattle.sv_names.specs.declared.checked.Checked.TheVariants.{Broken};
 ghost use Rattle.sv_names.specs.Rounds as rounds;
-ghost use Rattle.sv_names.specs.Values as values;
 
 use crate::waiting::nowhere_yet;
 use std::alloc::Global;
-use sv_flat::{Base, Expr, ExprForm};
-use sv_names::{Begin, Checked, Fault, Hoisted, Named, Target, Ty, Typed, int_type};
-use sv_value::{NoMemory, ObjId, Place, Seq};
-
-/// What is no target.
-fn no_target(alloc: Global) -> Target
-    ensures { result ≡ values.no_target }
-{
-    Target {
-        begins: Begin::Value,
-        through: None,
-        base: Base::Object(ObjId(0)),
-        part: None,
-        whole: Ty::Text,
-        is_item: false,
-        moving: Seq::new(alloc),
-    }
-}
+use sv_flat::{Expr, ExprForm};
+use sv_names::{AsTarget, Checked, Fault, Hoisted, Named, Typed, int_type};
+use sv_value::{NoMemory, Place, Seq};
 
 /// A constant that is tried: a value that is not constant.
 fn tried_constant(alloc: Global, at: Place) -> Result<Checked<Named>, NoMemory>
@@ -39,7 +23,7 @@ fn tried_constant(alloc: Global, at: Place) -> Result<Checked<Named>, NoMemory>
             value,
         },
         is_constant: false,
-        target: no_target(alloc),
+        target: AsTarget::none(),
     };
     Ok(Checked::Good(Named::Constant(typed, true)))
 }

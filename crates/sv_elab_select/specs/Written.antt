@@ -6,6 +6,7 @@ use Rattle.sv_flat.specs.Expr as flat
 use Rattle.sv_names.specs.declared.ty.Ty.{Ty}
 use Rattle.sv_names.specs.declared.hoisted.Hoisted.{Hoisted}
 use Rattle.sv_names.specs.declared.typed.How.{How}
+use Rattle.sv_names.specs.declared.typed.Target.{Target}
 use Rattle.sv_names.specs.declared.typed.Typed.{Typed}
 use Rattle.sv_names.specs.declared.checked.Checked.{Checked}
 use Rattle.sv_names.specs.Checked.{◌▷◌, broken_at, ◌where_also◌, all, only}
@@ -29,16 +30,14 @@ parts_stand at ss = all in_concatenation ss ▷ (λ _. not_too_wide at (widths s
 
 -- ---- in the flat design
 
+-- what a target at a place writes to
+abbrev pub lvalue_at : Around → Place → Target → Lvalue
+lvalue_at ar at t =
+    record { at = at; through = t.through; base = t.base; part = t.part; ty = data_of ar.numbers t.whole }
+
 -- what a part of a target writes to
 abbrev pub lvalue_value : Around → Typed → Lvalue
-lvalue_value ar t =
-    record {
-      at = t.at;
-      through = t.target.through;
-      base = t.target.base;
-      part = t.target.part;
-      ty = data_of ar.numbers t.target.whole;
-    }
+lvalue_value ar t = lvalue_at ar t.at t.target
 
 -- a part, and those that stand behind it
 abbrev pub put_first : Hoisted Lvalue → Hoisted (List Lvalue) → Hoisted (List Lvalue)

@@ -24,7 +24,7 @@ use sv_elab_value::{
     alone, constant_number, counted, expr_of, index, not_too_wide, paired, pure, rule, value_typed,
 };
 use sv_flat::{Bounds, Expr, ExprForm, Part};
-use sv_names::{Hoisted, Refusal, Target, Ty, Typed, both, plain_vector};
+use sv_names::{AsTarget, Hoisted, Refusal, Ty, Typed, both, plain_vector};
 use sv_tree::PartWord;
 use sv_value::{Bits, Place, Seq, Sym, WIDEST};
 
@@ -100,14 +100,15 @@ fn with_part(
     part: Part,
     is_steady: bool,
     at: Place,
-    mut target: Target,
-) -> Result<Target, Refusal>
+    target: AsTarget,
+) -> Result<AsTarget, Refusal>
     ensures ok { IfOk result (λ t. t ≡ parts.with_part part is_steady at target) }
     ensures err { IfErr result (λ e. e ≡ Memory) }
 {
+    let mut target = target.into_box(alloc)?;
     note_select(alloc, is_steady, at, &mut target.moving)?;
     target.part = Some(part);
-    Ok(target)
+    Ok(AsTarget::from_box(target))
 }
 
 // ---- so many bits

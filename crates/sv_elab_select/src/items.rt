@@ -19,7 +19,7 @@ use std::alloc::Global;
 use sv_elab_copies::copy_expr;
 use sv_elab_value::{alone, exactly, expr_of, number_index, paired, rule};
 use sv_flat::{Base, Bounds, Container, Expr, ExprForm};
-use sv_names::{Around, Hoisted, Refusal, Target, Ty, Typed};
+use sv_names::{Around, AsTarget, Hoisted, Refusal, Ty, Typed};
 use sv_value::{ObjId, Place, Plain};
 
 // ---- in the flat design
@@ -244,7 +244,7 @@ pub fn index_for(
 {
     match ty {
         Ty::Assoc(key, _) => {
-            let key = key.as_type(alloc)?;
+            let key = key.get().as_type(alloc)?;
             key_for(alloc, around, &key, at, i)
         }
         _ => counted_index(alloc, at, i),
@@ -301,17 +301,18 @@ fn item_target(
     whole: Ty,
     is_steady: bool,
     at: Place,
-    mut target: Target,
-) -> Result<Target, Refusal>
+    target: AsTarget,
+) -> Result<AsTarget, Refusal>
     ensures ok { IfOk result (λ t. t ≡ parts.item_target base whole is_steady at target) }
     ensures err { IfErr result (λ e. e ≡ Memory) }
 {
+    let mut target = target.into_box(alloc)?;
     note_select(alloc, is_steady, at, &mut target.moving)?;
     target.base = base;
     target.part = None;
     target.whole = whole;
     target.is_item = true;
-    Ok(target)
+    Ok(AsTarget::from_box(target))
 }
 
 /// An element as a target.
@@ -321,16 +322,17 @@ fn element_target(
     whole: Ty,
     is_steady: bool,
     at: Place,
-    mut target: Target,
-) -> Result<Target, Refusal>
+    target: AsTarget,
+) -> Result<AsTarget, Refusal>
     ensures ok { IfOk result (λ t. t ≡ parts.element_target base whole is_steady at target) }
     ensures err { IfErr result (λ e. e ≡ Memory) }
 {
+    let mut target = target.into_box(alloc)?;
     note_select(alloc, is_steady, at, &mut target.moving)?;
     target.base = base;
     target.part = None;
     target.whole = whole;
-    Ok(target)
+    Ok(AsTarget::from_box(target))
 }
 
 /// An item of a container, as a value and as a target.

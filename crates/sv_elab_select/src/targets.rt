@@ -42,7 +42,7 @@ fn signal_stands(how: How, t: &Typed, is_output: bool) -> Result<(), Refusal>
         → Gives result (targets.may_begin how at t.now (begin.Signal b i is_output)) }
 {
     match how {
-        How::Drive => rule(47, t.at, !is_output || t.target.part.is_some()),
+        How::Drive => rule(47, t.at, !is_output || t.target.has_part()),
         _ => Err(Refusal::Rule { rule: 47, at: t.at }),
     }
 }
@@ -53,8 +53,8 @@ fn variable_stands(how: How, at: Place, t: &Typed) -> Result<(), Refusal>
 {
     match how {
         How::Statement => Ok(()),
-        How::Continuous => rule(18, at, t.target.is_item),
-        _ => rule(26, at, t.target.is_item),
+        How::Continuous => rule(18, at, t.target.is_item()),
+        _ => rule(26, at, t.target.is_item()),
     }
 }
 
@@ -65,7 +65,7 @@ fn result_stands(how: How, at: Place, t: &Typed) -> Result<(), Refusal>
     match how {
         How::Statement => Ok(()),
         How::Continuous => Err(Refusal::Rule { rule: 18, at }),
-        _ => rule(26, at, t.target.is_item),
+        _ => rule(26, at, t.target.is_item()),
     }
 }
 
@@ -87,18 +87,18 @@ fn inner_stands(how: How, at: Place) -> Result<(), Refusal>
 pub fn may_begin(how: How, at: Place, t: &Typed) -> Result<(), Refusal>
     ensures { Gives result (targets.may_begin how at t.now t.now.target.begins) }
 {
-    match &t.target.begins {
-        Begin::Variable(_) => variable_stands(how, at, t),
-        Begin::Net(_) => net_stands(how, at),
-        Begin::Input => Err(Refusal::Rule { rule: 19, at }),
-        Begin::Parameter => Err(Refusal::Rule { rule: 19, at }),
-        Begin::Item => Err(Refusal::Rule { rule: 18, at }),
-        Begin::InActivation => inner_stands(how, at),
-        Begin::StaticProperty(_) => inner_stands(how, at),
-        Begin::Result => result_stands(how, at, t),
-        Begin::Signal { is_output, .. } => signal_stands(how, t, *is_output),
-        Begin::Object => Err(Refusal::Rule { rule: 18, at }),
-        Begin::Value => Err(Refusal::Rule { rule: 18, at }),
+    match t.target.begins() {
+        Some(Begin::Variable(_)) => variable_stands(how, at, t),
+        Some(Begin::Net(_)) => net_stands(how, at),
+        Some(Begin::Input) => Err(Refusal::Rule { rule: 19, at }),
+        Some(Begin::Parameter) => Err(Refusal::Rule { rule: 19, at }),
+        Some(Begin::Item) => Err(Refusal::Rule { rule: 18, at }),
+        Some(Begin::InActivation) => inner_stands(how, at),
+        Some(Begin::StaticProperty(_)) => inner_stands(how, at),
+        Some(Begin::Result) => result_stands(how, at, t),
+        Some(Begin::Signal { is_output, .. }) => signal_stands(how, t, *is_output),
+        Some(Begin::Object) => Err(Refusal::Rule { rule: 18, at }),
+        Some(Begin::Value) | None => Err(Refusal::Rule { rule: 18, at }),
     }
 }
 
@@ -144,7 +144,7 @@ fn begin_stands(how: How, at: Place, t: &Typed) -> Result<(), Refusal>
 fn target_stands(how: How, at: Place, t: &Typed) -> Result<(), Refusal>
     ensures { Gives result (written.target_stands how at t.now) }
 {
-    let selects = selects_stand(how, t.target.moving.as_slice());
+    let selects = selects_stand(how, t.target.moving());
     guarded(begin_stands(how, at, t), selects)
 }
 

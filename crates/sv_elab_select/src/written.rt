@@ -11,9 +11,9 @@ use crate::targets::{Spot, widths};
 use std::alloc::Global;
 use sv_elab_copies::{copy_base, copy_optional, copy_part};
 use sv_elab_value::{code_of, expr_of, paired, pure, value_typed};
-use sv_flat::{Expr, ExprForm, Lvalue};
-use sv_names::{Around, Hoisted, Refusal, Ty, Typed, plain_vector};
-use sv_value::{Place, Seq};
+use sv_flat::{Base, Expr, ExprForm, Lvalue};
+use sv_names::{Around, Hoisted, Refusal, Target, Ty, Typed, plain_vector};
+use sv_value::{ObjId, Place, Seq};
 
 // ---- what is written
 
@@ -22,12 +22,29 @@ fn lvalue_value(alloc: Global, around: &Around, t: &Typed) -> Result<Lvalue, Ref
     ensures ok { IfOk result (λ l. l ≡ parts.lvalue_value (around_in around.now) t.now) }
     ensures err { IfErr result (λ e. e ≡ Memory) }
 {
-    let through = copy_optional(alloc, &t.target.through)?;
-    let base = copy_base(alloc, &t.target.base)?;
-    let part = copy_part(alloc, &t.target.part)?;
-    let ty = around.numbers.data_of(&t.target.whole);
+    match t.target.get() {
+        Some(target) => lvalue_at(alloc, around, t.at, target),
+        None => Ok(Lvalue {
+            at: t.at,
+            through: None,
+            base: Base::Object(ObjId(0)),
+            part: None,
+            ty: around.numbers.data_of(&Ty::Text),
+        }),
+    }
+}
+
+/// What a target at a place writes to.
+fn lvalue_at(alloc: Global, around: &Around, at: Place, target: &Target) -> Result<Lvalue, Refusal>
+    ensures ok { IfOk result (λ l. l ≡ parts.lvalue_at (around_in around.now) at target.now) }
+    ensures err { IfErr result (λ e. e ≡ Memory) }
+{
+    let through = copy_optional(alloc, &target.through)?;
+    let base = copy_base(alloc, &target.base)?;
+    let part = copy_part(alloc, &target.part)?;
+    let ty = around.numbers.data_of(&target.whole);
     Ok(Lvalue {
-        at: t.at,
+        at,
         through,
         base,
         part,

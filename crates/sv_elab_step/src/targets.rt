@@ -23,9 +23,9 @@ use sv_elab_name::Thing;
 use sv_elab_operator::sv_elab_value::{expr_of, pure, value_typed};
 use sv_flat::{Expr, ExprForm, Part};
 use sv_names::{
-    Around, Checked, Fault, How, Refusal, Target, Ty, Typed, earlier_in, judged, where_also,
+    Around, AsTarget, Checked, Fault, How, Refusal, Ty, Typed, earlier_in, judged, where_also,
 };
-use sv_value::{Place, Seq};
+use sv_value::{NoMemory, Place, Seq};
 
 // ---- what stands before a part that breaks a rule
 
@@ -45,9 +45,15 @@ fn as_target(
 }
 
 /// A target of which one bit is written.
-fn one_bit_of(mut target: Target, is_item: bool, index: Expr) -> Target
-    ensures { result ≡ parts.one_bit_of is_item index target }
+fn one_bit_of(
+    alloc: Global,
+    target: AsTarget,
+    is_item: bool,
+    index: Expr,
+) -> Result<AsTarget, NoMemory>
+    ensures { IfOk result (λ t. t ≡ parts.one_bit_of is_item index target) }
 {
+    let mut target = target.into_box(alloc)?;
     target.is_item = is_item;
     target.part = Some(Part {
         width: 1,
@@ -55,7 +61,7 @@ fn one_bit_of(mut target: Target, is_item: bool, index: Expr) -> Target
         is_falling: false,
         index,
     });
-    target
+    Ok(AsTarget::from_box(target))
 }
 
 /// What stands for no expression, without calls.
@@ -72,7 +78,7 @@ fn as_selected(alloc: Global, t: Typed) -> Result<Typed, Refusal>
     ensures err { IfErr result (λ e. e ≡ Memory) }
 {
     let index = no_expr(alloc)?;
-    let is_item = t.target.is_item || t.ty.is_container();
+    let is_item = t.target.is_item() || t.ty.is_container();
     let Typed {
         ty,
         at,
@@ -80,12 +86,13 @@ fn as_selected(alloc: Global, t: Typed) -> Result<Typed, Refusal>
         is_constant,
         target,
     } = t;
+    let target = one_bit_of(alloc, target, is_item, index)?;
     Ok(Typed {
         ty,
         at,
         code,
         is_constant,
-        target: one_bit_of(target, is_item, index),
+        target,
     })
 }
 
@@ -177,7 +184,7 @@ pub fn kept(before: Option<Typed>, made: Option<Typed>, next: &Checked<Thing>) -
 fn name_stands(how: How, at: Place, t: &Typed) -> Result<(), Refusal>
     ensures { Gives result (parts.name_stands how at t.now) }
 {
-    let selects = selects_stand(how, t.target.moving.as_slice());
+    let selects = selects_stand(how, t.target.moving());
     where_also(may_begin(how, at, t), selects)
 }
 

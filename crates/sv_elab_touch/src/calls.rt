@@ -145,7 +145,7 @@ fn add_first_target(
 fn add_container(alloc: Global, object: &Typed, touches: &mut Seq<Touch>) -> Result<(), NoMemory>
     ensures { OnOk result (Touched touches.old touches.new (writers.container_touches object.now)) }
 {
-    add_written(alloc, object.at, &object.target.begins, touches)
+    add_written(alloc, object.at, &object.target, touches)
 }
 
 /// Appends what a method of the language writes.

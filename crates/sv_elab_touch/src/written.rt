@@ -6,7 +6,7 @@ ghost use Rattle.sv_elab_touch.specs.Touched.{Touched, good_touches};
 use std::alloc::Global;
 use sv_elab_expr::sv_elab_select::Spot;
 use sv_elab_writers::Touch;
-use sv_names::{Begin, Checked, Path, Typed, copy_path};
+use sv_names::{AsTarget, Begin, Checked, Path, Typed, copy_path};
 use sv_value::{NoMemory, Place, Seq};
 
 /// Appends a write of an object.
@@ -28,14 +28,14 @@ fn add_write(
 pub(crate) fn add_written(
     alloc: Global,
     at: Place,
-    begins: &Begin,
+    target: &AsTarget,
     touches: &mut Seq<Touch>,
 ) -> Result<(), NoMemory>
-    ensures { OnOk result (Touched touches.old touches.new (writers.written_by at begins.now)) }
+    ensures { OnOk result (Touched touches.old touches.new (writers.written_by at target.now.begins)) }
 {
-    match begins {
-        Begin::Variable(path) => add_write(alloc, at, path, touches),
-        Begin::StaticProperty(path) => add_write(alloc, at, path, touches),
+    match target.begins() {
+        Some(Begin::Variable(path)) => add_write(alloc, at, path, touches),
+        Some(Begin::StaticProperty(path)) => add_write(alloc, at, path, touches),
         _ => Ok(()),
     }
 }
@@ -48,7 +48,7 @@ fn add_spots(alloc: Global, spots: &[Spot], touches: &mut Seq<Touch>) -> Result<
     let mut left = spots;
     while let [one, rest @ ..] = left {
         let (at, t) = one;
-        add_written(alloc, *at, &t.target.begins, touches)?;
+        add_written(alloc, *at, &t.target, touches)?;
         left = rest;
     }
     Ok(())
@@ -81,6 +81,6 @@ pub(crate) fn add_selected(
 {
     match before {
         None => Ok(()),
-        Some(t) => add_written(alloc, at, &t.target.begins, touches),
+        Some(t) => add_written(alloc, at, &t.target, touches),
     }
 }

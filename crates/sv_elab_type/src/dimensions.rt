@@ -23,7 +23,7 @@ use std::alloc::Global;
 use sv_elab_expr::sv_elab_value::counted;
 use sv_elab_expr::{expr, place_of};
 use sv_flat::Bounds;
-use sv_names::{Around, Element, Meaning, Named, Refusal, Ty, both, first};
+use sv_names::{Around, Element, Key, Meaning, Named, Refusal, Ty, both, first};
 use sv_tree::{Dimension, Expr, Name, Range, Root, WrittenType};
 use sv_value::{NoMemory, Place, Text};
 
@@ -37,7 +37,7 @@ enum Shape {
     /// A fixed array (7.4)
     Fixed(Bounds),
     /// An associative array by such keys (7.8)
-    Keyed(Element),
+    Keyed(Key),
 }
 
 /// The array of what it holds.
@@ -80,7 +80,10 @@ fn keyed_array(alloc: Global, at: Place, key: &Ty) -> Result<Shape, Refusal>
     ensures { GivesAs shape_in result (declarations.keyed_array at key.now) }
 {
     match may_be_key(alloc, at, key) {
-        Ok(key) => Ok(Shape::Keyed(key)),
+        Ok(key) => {
+            let key = Key::new(alloc, key)?;
+            Ok(Shape::Keyed(key))
+        }
         Err(e) => Err(e),
     }
 }

@@ -7,9 +7,9 @@ ghost use Rattle.sv_names.specs.Hoisted as hoisted;
 ghost use Rattle.sv_names.specs.Values as values;
 
 use std::alloc::Global;
-use sv_flat::{Base, Expr, ExprForm};
-use sv_names::{Begin, Hoisted, Refusal, Target, Ty, Typed};
-use sv_value::{Integral, ObjId, Place, Seq};
+use sv_flat::{Expr, ExprForm};
+use sv_names::{AsTarget, Hoisted, Refusal, Ty, Typed};
+use sv_value::{Integral, Place, Seq};
 
 /// What has no calls.
 pub fn pure<T: Drop>(alloc: Global, value: T) -> Hoisted<T>
@@ -57,20 +57,13 @@ pub fn value_typed(
 ) -> Typed
     ensures { result ≡ values.value_typed ty at is_constant code }
 {
+    let _ = alloc;
     Typed {
         ty,
         at,
         code,
         is_constant,
-        target: Target {
-            begins: Begin::Value,
-            through: None,
-            base: Base::Object(ObjId(0)),
-            part: None,
-            whole: Ty::Text,
-            is_item: false,
-            moving: Seq::new(alloc),
-        },
+        target: AsTarget::none(),
     }
 }
 

@@ -19,4 +19,5 @@ mod walk;
 pub use instance::{Inst, Walked};
 pub use seen::{Seen, around_unit, seen_in};
 pub use sv_elab_head;
+pub use sv_elab_signal;
 pub use walk::walked;

@@ -1,20 +1,19 @@
 -- The numbers of parts are the positions of their paths.
-use Rattle.std.proofs.Common.{◌≡◌, ◌∙◌, ℕ, suc, List, [], ◌∷◌, ◌++◌, if◌then◌else◌, map, refl, sym, ap}
+use Rattle.std.proofs.Common.{◌≡◌, ◌∙◌, ℕ, suc, List, [], ◌∷◌, ◌++◌, if◌then◌else◌, map, refl, sym, ap, append-nil}
 use Rattle.std.specs.Prelude.{◌||◌, ◌-◌, ◌^◌, min, flat_map}
-use Rattle.std.proofs.lemmas.List.{map-append}
 use Rattle.sv_value.specs.declared.number.ClassId.{ClassId}
-use Rattle.sv_flat.specs.declared.design.Instance.{Instance}
-use Rattle.sv_flat.specs.declared.object.Object.{Object}
+use Rattle.sv_tree.specs.Descriptions.{Description}
 use Rattle.sv_names.specs.declared.around.ClassInfo.{ClassInfo}
 use Rattle.sv_names.specs.declared.numbers.Numbers.{Numbers}
-use Rattle.sv_names.specs.Design.{no_numbers, derived_ids, numbers_of, program_paths, all_parts}
+use Rattle.sv_names.specs.Design.{no_numbers, derived_ids, program_paths, all_parts, paths_of, foreseen, instance_of}
+use Rattle.sv_names.specs.Instances.{Walked}
 use Rattle.sv_names.specs.Items.{GivenParts}
 use Rattle.sv_names.specs.Named.{in_line, line_of, is_derived}
 use Rattle.sv_names.specs.Types.{Path, same_path, position_of}
 use Rattle.sv_names.specs.Views.{numbers_in, stands_in, derived_in}
 use Rattle.sv_elab_parts.specs.declared.so_far.SoFar.{SoFar}
 use Rattle.sv_elab_whole.specs.Collected.{IsGiven}
-use Rattle.sv_elab_whole.specs.Numbering.{line_paths, numbers_by}
+use Rattle.sv_elab_whole.specs.Numbering.{IsForeseen, line_paths, numbers_by, paths_so_far}
 use Rattle.sv_elab_whole.proofs.GivenLaws.{objects_given, samples_given}
 
 -- a path in the line of a class
@@ -47,7 +46,7 @@ none_are n objects classes lines subroutines clockings programs = λ i.
 pub numbers_are : (n : Numbers) (ks : List ClassInfo) (ps : List Path) (x : SoFar)
     → n.objects ≡ map (λ o. o.path) x.objects ++ map (λ o. o.path) x.samples → n.classes ≡ x.class_paths
     → n.lines ≡ map (line_paths ks) x.class_paths → n.subroutines ≡ x.subroutine_paths → n.clockings ≡ x.clocking_paths → n.programs ≡ ps
-    → numbers_in n ≡ numbers_by ks ps x
+    → numbers_in n ≡ numbers_by ks ps (paths_so_far x)
 numbers_are n ks ps x objects classes lines subroutines clockings programs = λ i.
     record {
       object = λ p. record { 0 = position_of 0 p (objects i) };
@@ -58,21 +57,33 @@ numbers_are n ks ps x objects classes lines subroutines clockings programs = λ 
       program = λ p. min (position_of 0 p (programs i)) (2 ^ 32 - 1);
     }
 
--- what stands so far has the numbers that the definition gives its parts
-pub numbers_given : (is : List Instance) (ks : List ClassInfo) (x : SoFar) (gs : List GivenParts) → IsGiven 0 x gs
-    → numbers_by ks (program_paths is) x ≡ numbers_of is ks (all_parts gs)
-numbers_given is ks x gs given =
-    let objects : map (λ (o : Object). o.path) x.objects ++ map (λ o. o.path) x.samples
-    ≡ map (λ (o : Object). o.path) ((all_parts gs).objects ++ flat_map (λ m. m.samples) (all_parts gs).clockings)
-    = ap (λ (os : List Object). map (λ o. o.path) os ++ map (λ o. o.path) x.samples) (objects_given 0 x gs given)
-    ∙ ap (λ (os : List Object). map (λ o. o.path) (all_parts gs).objects ++ map (λ o. o.path) os) (samples_given 0 x gs given)
-    ∙ sym (map-append (λ (o : Object). o.path) (all_parts gs).objects (flat_map (λ m. m.samples) (all_parts gs).clockings)) in
-    λ i.
+-- what stands so far has the paths that the definition gives its parts
+pub paths_given : (n : ℕ) (x : SoFar) (gs : List GivenParts) → IsGiven n x gs → paths_so_far x ≡ paths_of (all_parts gs)
+paths_given n x gs given = λ i.
     record {
-      object = λ p. record { 0 = position_of 0 p (objects i) };
-      class = λ p. record { 0 = position_of 0 p (given.classes i) };
-      derived = λ p. derived_ids 0 ks p (given.classes i);
-      subroutine = λ p. record { 0 = position_of 0 p (given.subroutines i) };
-      clocking = λ p. record { 0 = position_of 0 p (given.clockings i) };
-      program = λ p. min (position_of 0 p (program_paths is)) (2 ^ 32 - 1);
+      objects = map (λ o. o.path) (objects_given n x gs given i);
+      samples = map (λ o. o.path) (samples_given n x gs given i);
+      classes = given.classes i;
+      subroutines = given.subroutines i;
+      clockings = given.clockings i;
+    }
+
+-- the numbers of the code over the paths that are foreseen
+pub foreseen_are : (us : List Description) (ws : List Walked) (n : Numbers) → n.objects ≡ (foreseen us ws).objects → n.classes ≡ [] → n.lines ≡ []
+    → n.subroutines ≡ (foreseen us ws).subroutines → n.clockings ≡ [] → n.programs ≡ program_paths (flat_map instance_of ws)
+    → IsForeseen us ws n
+foreseen_are us ws n objects classes lines subroutines clockings programs =
+    record {
+      objects = objects;
+      subroutines = subroutines;
+      numbers =
+          λ ks i.
+          record {
+            object = λ p. record { 0 = position_of 0 p ((objects ∙ sym (append-nil (foreseen us ws).objects)) i) };
+            class = λ p. record { 0 = position_of 0 p (classes i) };
+            derived = λ p. derived_in 0 p (lines i);
+            subroutine = λ p. record { 0 = position_of 0 p (subroutines i) };
+            clocking = λ p. record { 0 = position_of 0 p (clockings i) };
+            program = λ p. min (position_of 0 p (programs i)) (2 ^ 32 - 1);
+          };
     }

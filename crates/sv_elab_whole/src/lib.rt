@@ -10,6 +10,7 @@
 
 mod files;
 mod finishing;
+mod foreseen;
 mod instances;
 mod meeting;
 mod numbering;
@@ -17,6 +18,7 @@ mod scales;
 
 pub use files::{classes_of, file_group, nowhere, scopes_of};
 pub use finishing::parts_from;
+pub use foreseen::{foreseen_numbers, is_foreseen};
 pub use instances::{classes_in, instances_in, programs_in};
 pub use meeting::all_met_stand;
 pub use numbering::{no_numbers, numbers_of};

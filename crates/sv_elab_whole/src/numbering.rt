@@ -40,7 +40,7 @@ fn add_paths(alloc: Global, objects: &[Object], paths: &mut Seq<Path>) -> Result
 
 /// The paths of all objects, those that hold samples last.
 fn object_paths(alloc: Global, so_far: &SoFar) -> Result<Seq<Path>, NoMemory>
-    ensures { IfOk result (λ ps. ps ≡ map (λ o. o.path) so_far.now.objects ++ map (λ o. o.path) so_far.now.samples) }
+    ensures { IfOk result (λ ps. ps ≡ (words.paths_so_far so_far.now).objects ++ (words.paths_so_far so_far.now).samples) }
 {
     let mut paths = Seq::new(alloc);
     add_paths(alloc, so_far.objects.as_slice(), &mut paths)?;
@@ -87,7 +87,7 @@ pub fn numbers_of(
     programs: Seq<Path>,
     so_far: SoFar,
 ) -> Result<Numbers, NoMemory>
-    ensures { IfOk result (λ n. numbers_in n ≡ words.numbers_by (map (λ k. k.now) classes.now) programs so_far) }
+    ensures { IfOk result (λ n. numbers_in n ≡ words.numbers_by (map (λ k. k.now) classes.now) programs (words.paths_so_far so_far)) }
 {
     let objects = object_paths(alloc, &so_far)?;
     let lines = lines_in(alloc, classes, so_far.class_paths.as_slice())?;

@@ -1,5 +1,5 @@
 -- The flat design of a list of units, or the first broken rule.
-use Rattle.std.specs.Prelude.{ℕ, suc, ◌+◌, Bool, false, not, ◌&&◌, ◌||◌, List, [], ◌∷◌, ◌++◌, length, Option, Some, None, if◌then◌else◌, ◌==◌, ◌-◌, ◌^◌, min, drop, replicate, map, flat_map, filter, nat_lt, slice_get}
+use Rattle.std.specs.Prelude.{ℕ, suc, ◌+◌, Bool, true, false, not, ◌&&◌, ◌||◌, List, [], ◌∷◌, ◌++◌, length, Option, Some, None, if◌then◌else◌, ◌==◌, ◌-◌, ◌^◌, min, drop, replicate, map, flat_map, filter, nat_lt, slice_get}
 use Rattle.sv_value.specs.declared.number.ObjId.{ObjId}
 use Rattle.sv_value.specs.declared.number.ClassId.{ClassId}
 use Rattle.sv_value.specs.declared.number.RoutineId.{RoutineId}
@@ -22,9 +22,13 @@ use Rattle.sv_flat.specs.Expr as flat_expr
 use Rattle.sv_flat.specs.Names.{reached}
 use Rattle.sv_flat.specs.Process.{routine_of}
 use Rattle.sv_tree.specs.declared.token.Timescale.{Timescale}
+use Rattle.sv_tree.specs.declared.word.Name.{Name}
+use Rattle.sv_tree.specs.Items as tree_item
+use Rattle.sv_tree.specs.Items.{Item}
 use Rattle.sv_tree.specs.Descriptions.{Description}
 use Rattle.sv_names.specs.declared.around.ClassInfo.{ClassInfo}
 use Rattle.sv_names.specs.declared.checked.Checked.{Checked}
+use Rattle.sv_names.specs.declared.checked.Checked.TheVariants.{Good}
 use Rattle.sv_names.specs.declared.checked.Fault.{Fault}
 use Rattle.sv_names.specs.Checked.{◌▷◌, given, rule, fine, ◌where_also◌, each, all, fault_of, value_if}
 use Rattle.sv_names.specs.Types.{Path, Numbers, same_path, position_of}
@@ -36,7 +40,7 @@ use Rattle.sv_names.specs.Clockings.{MadeClocking, times_in}
 use Rattle.sv_names.specs.Writers.{writers_stand}
 use Rattle.sv_names.specs.Sources
 use Rattle.sv_names.specs.Sources.{Met, met, met_outside, limits_stand, initialized}
-use Rattle.sv_names.specs.Instances.{Walked, Enter, roots, some_root, first_place, walked, file_group, file_around, outside}
+use Rattle.sv_names.specs.Instances.{Walked, Enter, Meet, roots, some_root, first_place, walked, file_group, file_around, outside}
 use Rattle.sv_names.specs.Connections.{Made}
 use Rattle.sv_names.specs.Items.{around_inst, walked_parts, file_parts, GivenParts}
 
@@ -230,17 +234,81 @@ derived_ids n ks p [] = []
 derived_ids n ks p (q ∷ qs) =
     if is_derived ks q p then record { 0 = n } ∷ derived_ids (suc n) ks p qs else derived_ids (suc n) ks p qs
 
--- the numbers of parts are their positions in the lists of the design
-abbrev pub numbers_of : List Instance → List ClassInfo → GivenParts → Numbers
-numbers_of is ks g =
+-- the paths of parts, in the order in which they stand in the design
+pub record Paths : Type 0 where
+  pub objects : List Path
+  -- the objects that hold samples, which stand behind all others
+  pub samples : List Path
+  pub classes : List Path
+  pub subroutines : List Path
+  pub clockings : List Path
+
+-- those of what is given
+abbrev pub paths_of : GivenParts → Paths
+paths_of g =
     record {
-      object = λ p. record { 0 = position_of 0 p (map (λ o. o.path) (g.objects ++ flat_map (λ m. m.samples) g.clockings)) };
-      class = λ p. record { 0 = position_of 0 p g.class_paths };
-      derived = λ p. derived_ids 0 ks p g.class_paths;
-      subroutine = λ p. record { 0 = position_of 0 p (map (λ m. m.path) g.subroutines) };
-      clocking = λ p. record { 0 = position_of 0 p (map (λ m. m.path) g.clockings) };
+      objects = map (λ o. o.path) g.objects;
+      samples = map (λ o. o.path) (flat_map (λ m. m.samples) g.clockings);
+      classes = g.class_paths;
+      subroutines = map (λ m. m.path) g.subroutines;
+      clockings = map (λ m. m.path) g.clockings;
+    }
+
+-- the number of a part is the position of its path
+abbrev pub numbers_of : List Instance → List ClassInfo → Paths → Numbers
+numbers_of is ks ps =
+    record {
+      object = λ p. record { 0 = position_of 0 p (ps.objects ++ ps.samples) };
+      class = λ p. record { 0 = position_of 0 p ps.classes };
+      derived = λ p. derived_ids 0 ks p ps.classes;
+      subroutine = λ p. record { 0 = position_of 0 p ps.subroutines };
+      clocking = λ p. record { 0 = position_of 0 p ps.clockings };
       program = λ p. min (position_of 0 p (program_paths is)) (2 ^ 32 - 1);
     }
+
+-- names in a scope
+abbrev pub within : Path → List Name → List Path
+within p ns = map (λ n. p ++ n.text ∷ []) ns
+
+-- the objects that a unit declares: its ports, its variables and its nets
+abbrev pub declared_objects : Walked → List Path
+declared_objects (Enter i) = within i.path (map (λ p. p.name) i.unit.element.ports)
+declared_objects (Meet i b (tree_item.Decl d)) = within i.path (map (λ x. x.name) d.names)
+declared_objects (Meet i b (tree_item.Net n)) = within i.path (map (λ x. x.name) n.names)
+declared_objects w = []
+
+-- the subroutine that an item of a scope is
+abbrev pub declared_subroutines : Path → Item → List Path
+declared_subroutines p (tree_item.Routine r) = within p (r.head.name ∷ [])
+declared_subroutines p i = []
+
+-- those of what is met on the walk
+abbrev pub walked_subroutines : Walked → List Path
+walked_subroutines (Meet i b item) = declared_subroutines i.path item
+walked_subroutines w = []
+
+-- the paths that parts have where no class, no clocking block and no static variable of a procedure or subroutine is declared
+abbrev pub foreseen : List Description → List Walked → Paths
+foreseen us ws =
+    record {
+      objects = flat_map declared_objects ws;
+      samples = [];
+      classes = [];
+      subroutines = flat_map (declared_subroutines []) (outside us) ++ flat_map walked_subroutines ws;
+      clockings = [];
+    }
+
+-- two lists have the same paths
+abbrev pub same_list : List Path → List Path → Bool
+same_list [] [] = true
+same_list (p ∷ ps) (q ∷ qs) = same_path p q && same_list ps qs
+same_list ps qs = false
+
+-- parts have the same paths, and so the same numbers
+abbrev pub same_paths : Paths → Paths → Bool
+same_paths ps qs =
+    same_list ps.objects qs.objects && same_list ps.samples qs.samples && same_list ps.classes qs.classes
+    && same_list ps.subroutines qs.subroutines && same_list ps.clockings qs.clockings
 
 -- before there are numbers; no rule looks at them
 abbrev pub no_numbers : Numbers
@@ -268,12 +336,24 @@ class_infos g ws = g.classes ++ flat_map of_walked ws
     of_walked (Enter i) = i.group.classes
     of_walked w = []
 
--- once without numbers, and once with those that the parts then have
-abbrev pub numbered : Scale → List Description → Group → List Walked → GivenParts → Checked Parts
-numbered s us g ws first =
-    given (λ gs. watching (parts_from s (flat_map instance_of ws) (length first.subroutines)
-    (with_each with_given (none_so_far (length first.subroutines)) gs)))
-    (given_parts us (file_around (numbers_of (flat_map instance_of ws) (class_infos g ws) first) s g) g ws)
+-- what all items give with these numbers
+abbrev pub given_by : Scale → List Description → Group → List Walked → Paths → Checked (List GivenParts)
+given_by s us g ws ps = given_parts us (file_around (numbers_of (flat_map instance_of ws) (class_infos g ws) ps) s g) g ws
+
+-- the design of what is given, behind so many places of subroutines
+abbrev pub finished : Scale → List Walked → ℕ → List GivenParts → Parts
+finished s ws n gs =
+    watching (parts_from s (flat_map instance_of ws) n (with_each with_given (none_so_far n) gs))
+
+-- with the numbers that the parts have which were given first
+abbrev pub numbered : Scale → List Description → Group → List Walked → Paths → Checked Parts
+numbered s us g ws ps = given (finished s ws (length ps.subroutines)) (given_by s us g ws ps)
+
+-- what is given by the numbers that are foreseen stands where the parts have these paths; else all is given once more
+abbrev pub numbered_well : Scale → List Description → Group → List Walked → Paths → List GivenParts → Checked Parts
+numbered_well s us g ws ps gs =
+    if same_paths ps (paths_of (all_parts gs)) then Good (finished s ws (length ps.subroutines) gs)
+    else numbered s us g ws (paths_of (all_parts gs))
 
 -- what is met on the walk, and outside units
 abbrev pub all_met : List Description → Around → Group → List Walked → List Met
@@ -289,8 +369,8 @@ met_stand g ws ms =
 -- the flat design of what is walked
 abbrev pub design_over : Scale → List Description → Group → List Walked → Checked Parts
 design_over s us g ws =
-    (given_parts us (file_around no_numbers s g) g ws where_also met_stand g ws (all_met us (file_around no_numbers s g) g ws))
-    ▷ (λ gs. numbered s us g ws (all_parts gs))
+    (given_by s us g ws (foreseen us ws) where_also met_stand g ws (all_met us (file_around no_numbers s g) g ws))
+    ▷ numbered_well s us g ws (foreseen us ws)
 
 -- the flat design over the scope of the files
 abbrev pub with_files : Scale → List Description → Option (List ℕ) → Group → Checked Parts

@@ -1,11 +1,14 @@
 // What a name stands for, and what it is declared as (IEEE 1800-2017, 23.9): E6, E7.
 ghost use Rattle.std.specs.Prelude.{◌≡◌, not, option_map};
+ghost use Rattle.sv_names.specs.declared.checked.Checked.{Checked as checked};
+ghost use Rattle.sv_names.specs.declared.named.Named.{Named as named_of};
 ghost use Rattle.sv_names.specs.Checked as rules;
+ghost use Rattle.sv_names.specs.Checked.{◌where_also◌};
 ghost use Rattle.sv_names.specs.Named as names;
 ghost use Rattle.sv_names.specs.Views.{around_in, found_in, meaning_in};
 ghost use Rattle.sv_names.specs.Given.{Gives, GivesAs, Fails};
 
-use crate::{Around, Checked, Fault, Found, Kind, Named, Refusal, same_place};
+use crate::{Around, Checked, Fault, Found, Kind, Named, Refusal, first, same_place};
 use sv_tree::Name;
 use sv_value::Place;
 
@@ -104,6 +107,26 @@ fn taken(rule: u8, at: Place, takes: bool) -> Result<(), Refusal>
     }
 }
 
+/// What a name stands for, where it is declared as what its place takes; else the earlier of the two rules.
+fn guarded<'a>(
+    meaning: Result<Meaning<'a>, Refusal>,
+    stands: Result<(), Refusal>,
+) -> Result<Meaning<'a>, Refusal>
+    ensures { (x : checked named_of) (y : checked (Unit {0})) → GivesAs meaning_in meaning.entry x → Gives stands y
+        → GivesAs meaning_in result (x where_also y) }
+{
+    match meaning {
+        Ok(meaning) => match stands {
+            Ok(()) => Ok(meaning),
+            Err(e) => Err(e),
+        },
+        Err(e) => match stands {
+            Ok(()) => Err(e),
+            Err(f) => Err(first(e, f)),
+        },
+    }
+}
+
 impl<'a> Around<'a> {
     /// What a name stands for. E6: it is not declared. Otherwise the rule that its declaration breaks; E7 at the name where the declaration
     /// needs itself.
@@ -116,6 +139,40 @@ impl<'a> Around<'a> {
                 at: name.at,
             }),
             Some(found) => found.told(name),
+        }
+    }
+
+    /// What a name stands for that is to be a value. E7 where it is declared as a type or class; else what `meaning` tells.
+    pub fn value_meaning(&self, name: &Name) -> Result<Meaning<'a>, Refusal>
+        ensures { GivesAs meaning_in result (names.meaning (around_in self.now) name.now
+            where_also names.kind_stands (around_in self.now) 7 name.now.at names.is_value_kind name.now.text) }
+    {
+        match self.find(name.text.bytes()) {
+            None => Err(Refusal::Rule {
+                rule: 6,
+                at: name.at,
+            }),
+            Some(found) => {
+                let stands = taken(7, name.at, is_value_kind(found.known.kind));
+                guarded(found.told(name), stands)
+            }
+        }
+    }
+
+    /// What a name stands for that is to be a type or a class. E7 where it is declared as anything else; else what `meaning` tells.
+    pub fn type_meaning(&self, name: &Name) -> Result<Meaning<'a>, Refusal>
+        ensures { GivesAs meaning_in result (names.meaning (around_in self.now) name.now
+            where_also names.kind_stands (around_in self.now) 7 name.now.at names.is_type_kind name.now.text) }
+    {
+        match self.find(name.text.bytes()) {
+            None => Err(Refusal::Rule {
+                rule: 6,
+                at: name.at,
+            }),
+            Some(found) => {
+                let stands = taken(7, name.at, is_type_kind(found.known.kind));
+                guarded(found.told(name), stands)
+            }
         }
     }
 

@@ -45,6 +45,13 @@ impl PathIndex {
         Ok(PathIndex { paths, first })
     }
 
+    /// The paths.
+    pub fn paths(&self) -> &[Path]
+        ensures { result.now ≡ self.now }
+    {
+        self.paths.as_slice()
+    }
+
     /// The position of a path; of one that is not among them how many there are.
     pub fn position(&self, path: &[Text]) -> usize
         ensures { result ≡ types.position_of 0 path.now self.now }
