@@ -12,7 +12,12 @@
 - classes: a line of classes, of which each extends the one before;
 - statements: statements of one block;
 - empty: `;` as items of one module;
-- real: modules of ordinary items, each of which is a root, of so many bytes. Beside it the same file with a `)` behind it, which is read and refused there.
+- real: modules of ordinary items, each of which is a root, of so many bytes;
+- told: the same, each with a comment before it that tells what it is for: three bytes of ten are comments. (8 MiB without them have more tokens than a
+  file may have.)
+
+Of the last two beside it the same file with a `)` behind it, which is read and refused there: what the whole call takes more is elaboration, with the
+start and the end of the run.
 
 Prints the processor seconds of the best of RUNS calls (3 where no number is given), and the greatest memory of these calls, for sizes of which each is
 twice the one before. It is no part of the gate.
@@ -68,13 +73,34 @@ def empty(count):
     return 'module top;' + ';' * count + 'endmodule\n'
 
 
-def real(size):
+def filled(size, text):
     units, written = [], 0
-    while written < size:
-        units.append(ORDINARY.replace('NUMBER', str(len(units))))
-        written += len(units[-1])
-    return ''.join(units)
+    while True:
+        unit = text.replace('NUMBER', str(len(units)))
+        written += len(unit)
+        if written > size and units:
+            return ''.join(units)
+        units.append(unit)
 
+
+def real(size):
+    return filled(size, ORDINARY)
+
+
+def told(size):
+    return filled(size, COMMENT + ORDINARY)
+
+
+COMMENT = '''// -----------------------------------------------------------------------------
+// unitNUMBER: adds two numbers at each change, and keeps what they come to.
+//
+// A sum that is zero starts a transfer of two steps: the sum is loaded, with the
+// carry behind it, and then shifted. The state goes back to IDLE from any other
+// value, so that an x at the start does not stay. The counter counts the edges
+// of the clock; the first print shows what was kept.
+// -----------------------------------------------------------------------------
+
+'''
 
 ORDINARY = '''// An adder behind a register.
 module unitNUMBER;
@@ -118,7 +144,7 @@ endmodule
 
 
 MEASURED = [(variables, 2_000, 4), (instances, 2_047, 4), (modules, 2_000, 4), (names, 2_000, 4), (constants, 250, 4), (typedefs, 250, 4), (items, 1_000, 4),
-            (classes, 100, 4), (statements, 5_000, 4), (empty, 250_000, 4), (real, 2 ** 20, 4)]
+            (classes, 100, 4), (statements, 5_000, 4), (empty, 250_000, 4), (real, 2 ** 20, 3), (told, 2 ** 20, 4)]
 
 
 def main():
@@ -133,8 +159,8 @@ def main():
                 source.write_text(design(count))
                 best = Best([PROGRAM, 'run', source, '--steps', '10'], runs, log)
                 print(f'{design.__name__} {count:,}, {source.stat().st_size:,} bytes: {best}; {best.last.replace(str(source), "FILE")}', flush=True)
-                if design is real:
-                    source.write_text(real(count) + ')\n')
+                if design in (real, told):
+                    source.write_text(design(count - 2) + ')\n')
                     best = Best([PROGRAM, 'run', source], runs, log)
                     print(f'read and refused: {best}; {best.last.replace(str(source), "FILE")}', flush=True)
 

@@ -51,11 +51,14 @@ event_part_touches ar p = expr_touches ar p.expr ++ optional_touches ar p.condit
 abbrev pub event_parts_touches : Around → List EventPart → List Touch
 event_parts_touches ar ps = flat_map (event_part_touches ar) (map view.event_part ps)
 
+-- what is given to a target
+abbrev pub given_touches : Around → tree.Lval → tree_stmt.Init → List Touch
+given_touches ar l i = init_touches ar (given type_of_target (target By_statement ar l)) i
+
 -- a blocking assignment
 abbrev pub blocking_touches : Around → tree_stmt.BlockingAssignment → List Touch
 blocking_touches ar a =
-    lval_touches By_statement ar a.target ++ delay_touches ar a.delay
-    ++ init_touches ar (given type_of_target (target By_statement ar a.target)) a.value
+    lval_touches By_statement ar a.target ++ delay_touches ar a.delay ++ given_touches ar a.target a.value
 
 -- a nonblocking assignment
 abbrev pub nonblocking_touches : Around → tree_stmt.NonblockingAssignment → List Touch

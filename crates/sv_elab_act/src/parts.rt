@@ -19,7 +19,7 @@ use sv_elab_write::target_of;
 use sv_elab_writers::Touch;
 use sv_names::{Around, Checked, How, Ty};
 use sv_tree::{
-    BlockingAssignment, Delay, Event, EventPart, Expr, ForStep, Lval, NonblockingAssignment,
+    BlockingAssignment, Delay, Event, EventPart, Expr, ForStep, Init, Lval, NonblockingAssignment,
     OperatorAssignment,
 };
 use sv_value::{NoMemory, Seq};
@@ -121,6 +121,27 @@ fn target_type(alloc: Global, target: &Lval, around: &Around) -> Result<Checked<
     }
 }
 
+/// Appends what is given to a target. Its type is asked for only where the value is made for it.
+fn add_given(
+    alloc: Global,
+    target: &Lval,
+    init: &Init,
+    around: &Around,
+    touches: &mut Seq<Touch>,
+) -> Result<(), NoMemory>
+    ensures { OnOk result (Touched touches.old touches.new (acts.given_touches (around_in around.now) (view.lval target.now) (view.init init.now))) }
+{
+    match init {
+        Init::New(_, _) => {
+            let ty = target_type(alloc, target, around)?;
+            add_init(alloc, &ty, init, around, touches)
+        }
+        Init::Value(_) | Init::Copy(_, _) | Init::Array { .. } => {
+            add_init(alloc, &Checked::Good(Ty::Nothing), init, around, touches)
+        }
+    }
+}
+
 /// Appends what a blocking assignment writes and calls.
 #[tactic(auto, using(sv_elab_touch::proofs::TouchedLaws::touched_both))]
 pub(crate) fn add_blocking(
@@ -134,8 +155,7 @@ pub(crate) fn add_blocking(
 {
     add_lval(alloc, How::Statement, &a.target, around, touches)?;
     add_delay(alloc, &a.delay, around, touches)?;
-    let ty = target_type(alloc, &a.target, around)?;
-    add_init(alloc, &ty, &a.value, around, touches)
+    add_given(alloc, &a.target, &a.value, around, touches)
 }
 
 /// Appends what a nonblocking assignment writes and calls.

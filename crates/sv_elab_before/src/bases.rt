@@ -44,6 +44,7 @@ pub fn with_constructor(
         None => arguments(alloc, around, at, &[], args),
         Some(found) => match &found.known.value {
             Checked::Good(Named::Subroutine(callee)) => {
+                let callee = callee.get();
                 let passed = arguments(alloc, around, at, callee.formals.as_slice(), args);
                 where_also(passed, may_be_named(around, callee.protection, class, at))
             }
@@ -64,7 +65,7 @@ fn outputs_of_constructor(alloc: Global, found: Option<Found>) -> Result<Seq<boo
         None => Ok(Seq::new(alloc)),
         Some(found) => match &found.known.value {
             Checked::Good(Named::Subroutine(callee)) => {
-                outputs_of(alloc, callee.formals.as_slice())
+                outputs_of(alloc, callee.get().formals.as_slice())
             }
             _ => Ok(Seq::new(alloc)),
         },
@@ -118,7 +119,9 @@ fn needs(found: Option<Found>) -> bool
     match found {
         None => false,
         Some(found) => match &found.known.value {
-            Checked::Good(Named::Subroutine(callee)) => needs_arguments(callee.formals.as_slice()),
+            Checked::Good(Named::Subroutine(callee)) => {
+                needs_arguments(callee.get().formals.as_slice())
+            }
             _ => false,
         },
     }

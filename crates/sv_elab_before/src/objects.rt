@@ -12,9 +12,9 @@ ghost use Rattle.sv_elab_before.specs.Objects as words;
 use std::alloc::Global;
 use sv_elab_object::{Flags, object_at};
 use sv_flat::{Object, ObjectKind};
-use sv_names::{Around, Checked, Known, Named, Path, ResultVariable, Scope, Ty, declared_in};
+use sv_names::{Around, Checked, Known, Named, ResultVariable, Scope, Ty, declared_in};
 use sv_tree::{Argument, Head, Name};
-use sv_value::{NoMemory, Place, Seq};
+use sv_value::{NoMemory, Place, Seq, Text};
 
 /// Appends an object of this path.
 fn add_object(
@@ -22,7 +22,7 @@ fn add_object(
     around: &Around,
     kind: ObjectKind,
     at: Place,
-    path: &Path,
+    path: &[Text],
     ty: &Ty,
     objects: &mut Seq<Object>,
 ) -> Result<(), NoMemory>
@@ -34,7 +34,7 @@ fn add_object(
         is_property: false,
         is_traced: false,
     };
-    let object = object_at(alloc, around, kind, flags, at, path.as_slice(), ty, None)?;
+    let object = object_at(alloc, around, kind, flags, at, path, ty, None)?;
     objects.push(object)
 }
 
@@ -54,7 +54,15 @@ fn add_named(
 {
     match named {
         Named::Variable(path, ty) => {
-            add_object(alloc, around, ObjectKind::Variable, at, path, ty, objects)
+            add_object(
+                alloc,
+                around,
+                ObjectKind::Variable,
+                at,
+                path.as_slice(),
+                ty,
+                objects,
+            )
         }
         _ => Ok(()),
     }
@@ -137,7 +145,15 @@ fn add_static(
 {
     match variable {
         Some(ResultVariable::Object(path, ty)) => {
-            add_object(alloc, around, ObjectKind::Result, at, path, ty, objects)
+            add_object(
+                alloc,
+                around,
+                ObjectKind::Result,
+                at,
+                path.as_slice(),
+                ty,
+                objects,
+            )
         }
         Some(ResultVariable::Local { .. }) => Ok(()),
         None => Ok(()),

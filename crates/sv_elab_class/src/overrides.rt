@@ -138,7 +138,7 @@ fn override_stands(around: &Around, base: Option<&[Text]>, member: &Known) -> Ch
     match &member.value {
         Checked::Good(Named::Subroutine(own)) => {
             let inherited = around.method_of(base, member.name.text.bytes());
-            against(&member.name, own, inherited)
+            against(&member.name, own.get(), inherited)
         }
         _ => Checked::Good(()),
     }

@@ -19,7 +19,7 @@ use sv_elab_expr::sv_elab_name::object_typed;
 use sv_elab_expr::sv_elab_select::Spot;
 use sv_elab_unit::PortInfo;
 use sv_names::{
-    Around, Begin, Checked, Fault, Meaning, Named, Refusal, Scope, Ty, Typed, copy_path,
+    Around, Begin, Checked, Fault, Meaning, Named, Refusal, Scope, SharedPath, Ty, Typed,
     declared_in, where_also,
 };
 use sv_value::{Place, Seq, Text};
@@ -29,14 +29,14 @@ fn variable_thing(
     alloc: Global,
     around: &Around,
     at: Place,
-    path: &[Text],
+    path: &SharedPath,
     ty: &Ty,
 ) -> Result<Typed, Refusal>
     ensures ok { IfOk result (λ t. t ≡ things.object_typed (around_in around.now) at path.now ty.now (begin.Variable path.now)) }
     ensures err { IfErr result (λ e. e ≡ Memory) }
 {
-    let begins = Begin::Variable(copy_path(alloc, path)?);
-    object_typed(alloc, around, at, path, ty, begins)
+    let begins = Begin::Variable(path.share()?);
+    object_typed(alloc, around, at, path.as_slice(), ty, begins)
 }
 
 /// A net, as a target of its own.
@@ -44,14 +44,14 @@ fn net_thing(
     alloc: Global,
     around: &Around,
     at: Place,
-    path: &[Text],
+    path: &SharedPath,
     ty: &Ty,
 ) -> Result<Typed, Refusal>
     ensures ok { IfOk result (λ t. t ≡ things.object_typed (around_in around.now) at path.now ty.now (begin.Net path.now)) }
     ensures err { IfErr result (λ e. e ≡ Memory) }
 {
-    let begins = Begin::Net(copy_path(alloc, path)?);
-    object_typed(alloc, around, at, path, ty, begins)
+    let begins = Begin::Net(path.share()?);
+    object_typed(alloc, around, at, path.as_slice(), ty, begins)
 }
 
 /// What is no object.
@@ -74,13 +74,13 @@ fn port_thing(
     ensures err { IfErr result (λ e. e ≡ Memory) }
 {
     match meaning.named {
-        Named::Variable(path, ty) => variable_thing(alloc, around, at, path.as_slice(), ty),
-        Named::Net(path, ty) => net_thing(alloc, around, at, path.as_slice(), ty),
+        Named::Variable(path, ty) => variable_thing(alloc, around, at, path, ty),
+        Named::Net(path, ty) => net_thing(alloc, around, at, path, ty),
         Named::Input { path, is_net, ty } => {
             if *is_net {
-                net_thing(alloc, around, at, path.as_slice(), ty)
+                net_thing(alloc, around, at, path, ty)
             } else {
-                variable_thing(alloc, around, at, path.as_slice(), ty)
+                variable_thing(alloc, around, at, path, ty)
             }
         }
         Named::Local { .. } | Named::Property { .. } | Named::StaticProperty { .. } => {

@@ -108,8 +108,8 @@ fn copy_begin(alloc: Global, begins: &Begin) -> Result<Begin, NoMemory>
     ensures { IfOk result (λ b. b ≡ begins.now) }
 {
     match begins {
-        Begin::Variable(path) => Ok(Begin::Variable(copy_path(alloc, path.as_slice())?)),
-        Begin::Net(path) => Ok(Begin::Net(copy_path(alloc, path.as_slice())?)),
+        Begin::Variable(path) => Ok(Begin::Variable(path.share()?)),
+        Begin::Net(path) => Ok(Begin::Net(path.share()?)),
         Begin::Input => Ok(Begin::Input),
         Begin::Parameter => Ok(Begin::Parameter),
         Begin::Item => Ok(Begin::Item),

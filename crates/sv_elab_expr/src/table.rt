@@ -132,6 +132,33 @@ pub fn named(
 ) -> Result<Typed, Refusal>
     ensures { Gives result (name_as_value (around_in around.now) root.now (view.suffix_list suffixes.now)) }
 {
+    match suffixes {
+        [] => value_alone(alloc, root, around),
+        _ => followed(alloc, root, suffixes, around),
+    }
+}
+
+/// A name alone, as a value.
+#[inline(never)]
+fn value_alone(alloc: Global, root: &Root, around: &Around) -> Result<Typed, Refusal>
+    ensures { Gives result (name_as_value (around_in around.now) root.now tree.NoSuffix) }
+{
+    let thing = judged_thing(root_thing(alloc, around, root))?;
+    let value = value_step(alloc, around, place_of_root(root), thing)?;
+    answer(value)
+}
+
+/// A name with what follows it, as a value.
+#[cycle(elaborate)]
+#[inline(never)]
+fn followed(
+    alloc: Global,
+    root: &Root,
+    suffixes: &[Suffix],
+    around: &Around,
+) -> Result<Typed, Refusal>
+    ensures { Gives result (name_as_value (around_in around.now) root.now (view.suffix_list suffixes.now)) }
+{
     let place = place_of_root(root);
     let thing = judged_thing(root_thing(alloc, around, root))?;
     let thing = behind_root(alloc, place, thing, suffixes, around)?;
@@ -388,6 +415,40 @@ pub fn target_in(
 /// A name with what follows it, as a target.
 #[cycle(elaborate)]
 pub fn target_of_name(
+    alloc: Global,
+    how: How,
+    root: &Root,
+    suffixes: &[Suffix],
+    around: &Around,
+) -> Result<Checked<Seq<Spot>>, Refusal>
+    ensures ok { IfOk result (λ c. c ≡ name_as_target how (around_in around.now) root.now (view.suffix_list suffixes.now)) }
+    ensures err { IfErr result (λ e. e ≡ Memory) }
+{
+    match suffixes {
+        [] => target_alone(alloc, how, root, around),
+        _ => target_followed(alloc, how, root, suffixes, around),
+    }
+}
+
+/// A name alone, as a target.
+#[inline(never)]
+fn target_alone(
+    alloc: Global,
+    how: How,
+    root: &Root,
+    around: &Around,
+) -> Result<Checked<Seq<Spot>>, Refusal>
+    ensures ok { IfOk result (λ c. c ≡ name_as_target how (around_in around.now) root.now tree.NoSuffix) }
+    ensures err { IfErr result (λ e. e ≡ Memory) }
+{
+    let thing = judged_thing(root_thing(alloc, around, root))?;
+    target_step(alloc, around, how, place_of_root(root), thing, None)
+}
+
+/// A name with what follows it, as a target.
+#[cycle(elaborate)]
+#[inline(never)]
+fn target_followed(
     alloc: Global,
     how: How,
     root: &Root,

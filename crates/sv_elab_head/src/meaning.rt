@@ -20,7 +20,7 @@ use sv_elab_class::{ClassHead, settled_group};
 use sv_elab_scope::{Declared, DeclaredPure, DeclaredRoutine, Entry, Group, Means, Stage};
 use sv_elab_signal::{known, signals_in, within};
 use sv_elab_type::value_of_entry;
-use sv_names::{Around, Checked, Named};
+use sv_names::{Apart, Around, Checked, Named};
 use sv_tree::{ClockingItem, Name, Qualifiers};
 use sv_value::{NoMemory, Seq, Text};
 
@@ -44,7 +44,8 @@ fn routine_named(
         head: &routine.head,
     };
     let callee = callee_within(alloc, around, &scope, &heading)?;
-    Ok(Named::Subroutine(callee))
+    let kept = Apart::new(alloc, callee)?;
+    Ok(Named::Subroutine(kept))
 }
 
 /// A pure method by its head, which is virtual whether the word is written or not (8.21).
@@ -71,7 +72,8 @@ fn pure_named(
         head: of.head,
     };
     let callee = callee_within(alloc, around, &scope, &heading)?;
-    Ok(Named::Subroutine(callee))
+    let kept = Apart::new(alloc, callee)?;
+    Ok(Named::Subroutine(kept))
 }
 
 /// A clocking block by its signals (14.3).

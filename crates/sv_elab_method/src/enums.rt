@@ -42,7 +42,7 @@ fn item_named(alloc: Global, name: &Name, named: &Named) -> Result<Seq<NamedItem
     let mut items = Seq::new(alloc);
     match named {
         Named::Constant(t, _) => {
-            let value = bits_of(&t.code.value)?;
+            let value = bits_of(&t.get().code.value)?;
             let mut text = Seq::new(alloc);
             text.push_all(name.text.bytes())?;
             items.push(NamedItem { value, name: text })?;

@@ -11,8 +11,8 @@ use crate::variables::{constant_named, static_typed};
 use crate::{Thing, at_hand, field_typed, lasts, local_typed, may_be_named, object_typed};
 use std::alloc::Global;
 use sv_names::{
-    Around, Begin, Callee, Meaning, Named, Protection, Refusal, ResultVariable, Ty, Typed,
-    copy_path,
+    Around, Begin, Callee, Meaning, Named, Protection, Refusal, ResultVariable, SharedPath, Ty,
+    Typed, copy_path,
 };
 use sv_tree::Name;
 use sv_value::{Place, Text};
@@ -24,13 +24,13 @@ fn variable<'a>(
     alloc: Global,
     around: &Around,
     at: Place,
-    path: &[Text],
+    path: &SharedPath,
     ty: &Ty,
 ) -> Result<Thing<'a>, Refusal>
     ensures { GivesAs thing_in result (things.named_thing (around_in around.now) at (named.Variable path.now ty.now)) }
 {
-    let begins = Begin::Variable(copy_path(alloc, path)?);
-    let t = object_typed(alloc, around, at, path, ty, begins)?;
+    let begins = Begin::Variable(path.share()?);
+    let t = object_typed(alloc, around, at, path.as_slice(), ty, begins)?;
     Ok(Thing::Value(t))
 }
 
@@ -39,13 +39,13 @@ fn net<'a>(
     alloc: Global,
     around: &Around,
     at: Place,
-    path: &[Text],
+    path: &SharedPath,
     ty: &Ty,
 ) -> Result<Thing<'a>, Refusal>
     ensures { GivesAs thing_in result (things.named_thing (around_in around.now) at (named.Net path.now ty.now)) }
 {
-    let begins = Begin::Net(copy_path(alloc, path)?);
-    let t = object_typed(alloc, around, at, path, ty, begins)?;
+    let begins = Begin::Net(path.share()?);
+    let t = object_typed(alloc, around, at, path.as_slice(), ty, begins)?;
     Ok(Thing::Value(t))
 }
 
@@ -305,8 +305,8 @@ pub fn named_thing<'a>(
     ensures { GivesAs thing_in result (things.named_thing (around_in around.now) at (meaning_in meaning.entry)) }
 {
     match meaning.named {
-        Named::Variable(path, ty) => variable(alloc, around, at, path.as_slice(), ty),
-        Named::Net(path, ty) => net(alloc, around, at, path.as_slice(), ty),
+        Named::Variable(path, ty) => variable(alloc, around, at, path, ty),
+        Named::Net(path, ty) => net(alloc, around, at, path, ty),
         Named::Input { path, ty, .. } => input(alloc, around, at, path.as_slice(), ty),
         Named::Local { ty, .. } => local(alloc, around, at, meaning.up, meaning.place, ty),
         Named::Property {
@@ -330,14 +330,16 @@ pub fn named_thing<'a>(
             ty,
             None,
         ),
-        Named::Constant(t, is_parameter) => constant(alloc, at, t, *is_parameter),
+        Named::Constant(t, is_parameter) => constant(alloc, at, t.get(), *is_parameter),
         Named::TypeName(ty) => type_name(alloc, at, ty),
         Named::ClassName(class) => class_name(alloc, at, class.as_slice()),
         Named::Subroutine(callee) => {
             let object = at_hand(alloc, around, at)?;
-            subroutine_thing(around, at, callee, object, false)
+            subroutine_thing(around, at, callee.get(), object, false)
         }
-        Named::Itself(callee, result) => itself(alloc, around, at, meaning, callee, result),
+        Named::Itself(callee, result) => {
+            itself(alloc, around, at, meaning, callee.get(), result)
+        }
         Named::ClockingBlock(path, signals) => Ok(Thing::Block {
             path: path.as_slice(),
             signals: signals.as_slice(),

@@ -74,7 +74,7 @@ fn named_stands(named: &Named) -> Checked<()>
     ensures { result ≡ scopes.name_stands (Good named.now) }
 {
     match named {
-        Named::Subroutine(callee) => callee_stands(callee),
+        Named::Subroutine(callee) => callee_stands(callee.get()),
         _ => Checked::Good(()),
     }
 }
@@ -108,7 +108,7 @@ fn item_in(known: &Known) -> Option<&Typed>
 {
     match &known.value {
         Checked::Good(Named::Constant(t, is_parameter)) => {
-            if *is_parameter { None } else { Some(t) }
+            if *is_parameter { None } else { Some(t.get()) }
         }
         _ => None,
     }

@@ -90,10 +90,29 @@ fn clashes_again(seen: &NameSet, entry: &Entry, before: &[Entry]) -> bool
     clashes(entry, before)
 }
 
-/// A name that is declared twice: the rule, E5 or E1, at the second declaration. Only a declaration whose name was seen is compared with those before it.
+/// The same of few declarations, each of which is compared with all before it.
+fn twice_among_few(number: u8, entries: &[Entry]) -> Checked<()>
+    ensures { result ≡ names.twice (of_rule number) [] (map entry_in entries.now) }
+{
+    let mut guards = Checked::Good(());
+    for (position, entry) in entries.iter().enumerate() {
+        let is_broken = clashes(entry, &entries[..position]);
+        guards = and_guard(guards, rule(number, entry.name.at, is_broken));
+    }
+    guards
+}
+
+/// So many declarations are compared with one another sooner than their names are put into a set.
+const FEW: usize = 32;
+
+/// A name that is declared twice: the rule, E5 or E1, at the second declaration. Where there are many, only one whose name was seen is compared with those
+/// before it.
 pub fn twice(alloc: Global, number: u8, entries: &[Entry]) -> Result<Checked<()>, NoMemory>
     ensures { IfOk result (λ c. c ≡ names.twice (of_rule number) [] (map entry_in entries.now)) }
 {
+    if entries.len() <= FEW {
+        return Ok(twice_among_few(number, entries));
+    }
     let mut seen = NameSet::new(alloc);
     let mut guards = Checked::Good(());
     for (position, entry) in entries.iter().enumerate() {

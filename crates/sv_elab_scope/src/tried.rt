@@ -6,7 +6,7 @@ ghost use Rattle.sv_names.specs.Rounds as rounds;
 use crate::waiting::nowhere_yet;
 use std::alloc::Global;
 use sv_flat::{Expr, ExprForm};
-use sv_names::{AsTarget, Checked, Fault, Hoisted, Named, Typed, int_type};
+use sv_names::{Apart, AsTarget, Checked, Fault, Hoisted, Named, Typed, int_type};
 use sv_value::{NoMemory, Place, Seq};
 
 /// A constant that is tried: a value that is not constant.
@@ -25,6 +25,7 @@ fn tried_constant(alloc: Global, at: Place) -> Result<Checked<Named>, NoMemory>
         is_constant: false,
         target: AsTarget::none(),
     };
+    let typed = Apart::new(alloc, typed)?;
     Ok(Checked::Good(Named::Constant(typed, true)))
 }
 

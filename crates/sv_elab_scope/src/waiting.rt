@@ -92,8 +92,8 @@ fn name_waits(named: &Named) -> bool
     ensures { result ≡ rounds.name_waits named.now }
 {
     match named {
-        Named::Subroutine(callee) => callee_waits(callee),
-        Named::Itself(callee, _) => callee_waits(callee),
+        Named::Subroutine(callee) => callee_waits(callee.get()),
+        Named::Itself(callee, _) => callee_waits(callee.get()),
         Named::ClockingBlock(_, signals) => some_wait(signals.as_slice()),
         _ => false,
     }

@@ -72,6 +72,9 @@ fn put_before(first: Lvalue, rest: Seq<Lvalue>) -> Result<Seq<Lvalue>, Refusal>
     ensures err { IfErr result (λ e. e ≡ Memory) }
 {
     let mut items = rest.into_vec();
+    if items.is_empty() {
+        items.reserve_exact(1)?;
+    }
     items.insert(0, first)?;
     Ok(Seq::from_vec(items))
 }

@@ -5,7 +5,9 @@ ghost use Rattle.sv_names.specs.Subroutines as subroutines;
 ghost use Rattle.sv_elab_subroutine.specs.Bodies as words;
 
 use std::alloc::Global;
-use sv_names::{Callee, Checked, Kind, Known, Named, Path, ResultVariable, Scope, Ty, copy_path};
+use sv_names::{
+    Apart, Callee, Checked, Kind, Known, Named, Path, ResultVariable, Scope, Ty, copy_path,
+};
 use sv_tree::Name;
 use sv_value::{NoMemory, Text};
 
@@ -65,6 +67,7 @@ fn itself_value(
     match copy_type(alloc, &callee.result)? {
         Checked::Good(ty) => {
             let variable = result_variable(alloc, path, is_automatic, ty)?;
+            let callee = Apart::new(alloc, callee)?;
             Ok(Checked::Good(Named::Itself(callee, variable)))
         }
         Checked::Broken(f) => Ok(Checked::Broken(f)),

@@ -1,3 +1,4 @@
 pub mod TouchedLaws
 pub mod StepLaws
 pub mod OutputLaws
+pub mod QuietLaws

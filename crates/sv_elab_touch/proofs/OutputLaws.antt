@@ -1,5 +1,5 @@
 -- The targets among arguments, one after another.
-use Rattle.std.proofs.Common.{◌≡◌, ℕ, ◌+◌, ◌<◌, List, [], ◌∷◌, ◌++◌, map, length, drop, get_or, refl, sym, ap, ◌∙◌}
+use Rattle.std.proofs.Common.{◌≡◌, ℕ, ◌+◌, ◌<◌, List, [], ◌∷◌, ◌++◌, map, length, drop, get_or, refl, sym, ◌∙◌}
 use Rattle.sv_tree.specs.declared.expr.Expr.{Expr}
 use Rattle.sv_tree.specs.Expr as tree
 use Rattle.sv_tree.specs.View.{expr, expr_list}

@@ -1,17 +1,17 @@
 -- One more suffix behind a name, and names without brackets.
-use Rattle.std.proofs.Common.{arith, rules, ◌≡◌, Bool, true, false, List, [], ◌∷◌, ◌++◌, Option, Some, None, map, length, refl, sym, ap, ◌∙◌, append_assoc}
+use Rattle.std.proofs.Common.{arith, rules, ◌≡◌, true, false, List, [], ◌∷◌, ◌++◌, Option, Some, None, map, length, refl, sym, ap, ◌∙◌}
 use Rattle.std.specs.Prelude.{◌==◌}
 use Rattle.sv_value.specs.declared.place.Place.{Place}
 use Rattle.sv_tree.specs.declared.expr.Suffix.{Suffix, Member, Call', Select', Part'}
 use Rattle.sv_tree.specs.Expr as tree
-use Rattle.sv_tree.specs.View.{expr, exprs, suffix, suffix_list}
+use Rattle.sv_tree.specs.View.{suffix, suffix_list}
 use Rattle.sv_names.specs.declared.checked.Checked.{Checked}
 use Rattle.sv_names.specs.declared.checked.Checked.TheVariants.{Good, Broken}
 use Rattle.sv_names.specs.declared.typed.Typed.{Typed}
 use Rattle.sv_names.specs.Named.{Around}
-use Rattle.sv_names.specs.Things.{Thing, A_value, A_subroutine, A_method, Its_result, A_block, The_signal, A_type, dollar_in}
-use Rattle.sv_names.specs.Expressions.{things, before_select, if_broken, with_dollar}
-use Rattle.sv_names.specs.Writers.{Touch, bare_touches, call_touches, suffix_touches, exprs_touches, expr_touches}
+use Rattle.sv_names.specs.Things.{Thing, A_value, A_subroutine, A_method, Its_result, A_block, The_signal, A_type}
+use Rattle.sv_names.specs.Expressions.{things, before_select, if_broken}
+use Rattle.sv_names.specs.Writers.{bare_touches, call_touches, suffix_touches}
 use Rattle.sv_elab_expr.specs.Walk.{stepped, before_suffix, is_end}
 use Rattle.sv_elab_touch.specs.Touched.{Touched, step_touches, is_result, stops}
 use Rattle.sv_elab_touch.proofs.TouchedLaws.{touched_none}

@@ -1,5 +1,5 @@
 -- What is found to be written and called, behind what was found before.
-use Rattle.std.specs.Prelude.{◌≡◌, Bool, true, false, not, ◌&&◌, List, [], ◌∷◌, ◌++◌, Option, Some, None, map, if◌then◌else◌}
+use Rattle.std.specs.Prelude.{◌≡◌, Bool, true, false, not, ◌&&◌, List, [], ◌∷◌, ◌++◌, Option, Some, map, if◌then◌else◌}
 use Rattle.sv_value.specs.declared.place.Place.{Place}
 use Rattle.sv_tree.specs.declared.expr.Root.{Root}
 use Rattle.sv_tree.specs.Expr as tree
@@ -15,11 +15,13 @@ use Rattle.sv_names.specs.Calls.{is_output}
 use Rattle.sv_names.specs.Expressions.{with_dollar, before_select}
 use Rattle.sv_names.specs.Named.{Around}
 use Rattle.sv_names.specs.Targets.{Spot}
-use Rattle.sv_names.specs.Things.{Thing, Its_result, dollar_in, root_thing}
+use Rattle.sv_names.specs.Things.{Thing, A_value, Its_result, dollar_in, root_thing}
 use Rattle.sv_names.specs.Writers as writers
 use Rattle.sv_names.specs.Writers.{target_touches, selected_touches, spot_touches, bare_touches, call_touches, exprs_touches, expr_touches, suffix_touches}
 use Rattle.sv_elab_writers.specs.declared.touch.Touch.{Touch}
 use Rattle.sv_elab_writers.specs.Views.{touch_in}
+use Rattle.sv_elab_touch.specs.declared.quiet.Alone.{Alone}
+use Rattle.sv_elab_touch.specs.declared.quiet.Alone.TheVariants.{Variable, Nothing}
 
 -- touches that are put behind others
 abbrev pub Touched : List Touch → List Touch → List writers.Touch → Type 0
@@ -41,6 +43,17 @@ step_touches ar th (tree.Member n rest) = bare_touches ar th
 step_touches ar th (tree.Call at es rest) = call_touches ar th es ++ exprs_touches ar es
 step_touches ar th (tree.Select at i rest) = bare_touches ar th ++ expr_touches (with_dollar (dollar_in th) ar) i
 step_touches ar th (tree.Part at w l r rest) = bare_touches ar th ++ expr_touches ar l
+
+-- what a name alone writes
+abbrev pub alone_touches : Place → Alone → List writers.Touch
+alone_touches at (Variable p) = writers.Writes at p.now ∷ []
+alone_touches at Nothing = []
+
+-- whether a value, or what breaks a rule
+abbrev pub is_value : Checked Thing → Bool
+is_value (Good (A_value t)) = true
+is_value (Broken f) = true
+is_value th = false
 
 -- the object before a broken select
 abbrev pub broken_touches : Around → Root → tree.Suffixes → List writers.Touch

@@ -1,5 +1,5 @@
 // What expressions write and call (IEEE 1800-2017, 8.7, 10.3, 11 and 13).
-ghost use Rattle.std.specs.Prelude.{◌≡◌, [], true, IfOk, OnOk};
+ghost use Rattle.std.specs.Prelude.{◌≡◌, IfOk, OnOk};
 ghost use Rattle.sv_tree.specs.Expr as tree;
 ghost use Rattle.sv_tree.specs.View as view;
 ghost use Rattle.sv_names.specs.Checked.{given};
@@ -12,13 +12,14 @@ ghost use Rattle.sv_elab_touch.specs.Touched.{Touched, name_touches, step_touche
 
 use crate::before::{begun, stepped};
 use crate::calls::{add_bare, add_call, add_cast};
+use crate::quiet::{are_numbers, is_object};
 use std::alloc::Global;
 use sv_elab_expr::place_of_root;
 use sv_elab_expr::sv_elab_step::system_of;
 use sv_elab_expr::sv_elab_thing::dollar_behind;
 use sv_elab_name::Thing;
 use sv_elab_writers::Touch;
-use sv_names::{Around, Checked, Dollar, Named};
+use sv_names::{Around, Checked, Dollar};
 use sv_tree::{Actuals, Expr, Root, Suffix};
 use sv_value::{NoMemory, Place, Seq};
 
@@ -120,6 +121,7 @@ pub fn add_exprs(
 
 /// Appends what a name with what follows it writes and calls.
 #[cycle(exprs)]
+#[tactic(auto, using(crate::proofs::TouchedLaws::touched_none))]
 pub(crate) fn add_name(
     alloc: Global,
     root: &Root,
@@ -130,31 +132,11 @@ pub(crate) fn add_name(
     ensures { OnOk result (Touched touches.old touches.new
         (name_touches (around_in around.now) root.now (view.suffix_list suffixes.now))) }
 {
-    if suffixes.is_empty() && is_object(root, around) {
+    if are_numbers(suffixes) && is_object(root, around) {
         return Ok(());
     }
     let thing = begun(alloc, root, around)?;
     add_suffixes(alloc, place_of_root(root), thing, suffixes, around, touches)
-}
-
-/// Whether a name is that of a variable, a net or a constant, which alone writes and calls nothing.
-fn is_object(root: &Root, around: &Around) -> bool
-    ensures { result ≡ true → name_touches (around_in around.now) root.now tree.NoSuffix ≡ [] }
-{
-    match root {
-        Root::Plain(name) => match around.value_meaning(name) {
-            Ok(meaning) => match meaning.named {
-                Named::Variable(_, _) => true,
-                Named::Net(_, _) => true,
-                Named::Input { .. } => true,
-                Named::Local { .. } => true,
-                Named::Constant(_, _) => true,
-                _ => false,
-            },
-            Err(_) => false,
-        },
-        _ => false,
-    }
 }
 
 /// Appends what a thing with what follows it writes and calls, in an expression that begins at the place.

@@ -3,16 +3,17 @@ ghost use Rattle.std.specs.Prelude.{OnOk};
 ghost use Rattle.sv_tree.specs.View as view;
 ghost use Rattle.sv_names.specs.Writers as writers;
 ghost use Rattle.sv_names.specs.Views.{around_in};
-ghost use Rattle.sv_elab_touch.specs.Touched.{Touched, broken_touches};
+ghost use Rattle.sv_elab_touch.specs.Touched.{Touched, alone_touches, broken_touches};
 
 use crate::before::{before_select, begun};
-use crate::written::{add_good, add_selected};
+use crate::quiet::{Alone, written_alone};
+use crate::written::{add_good, add_selected, add_write};
 use std::alloc::Global;
 use sv_elab_expr::{place_of_root, target_of_name};
 use sv_elab_writers::Touch;
 use sv_names::{Around, Checked, How};
 use sv_tree::{Expr, Root, Suffix};
-use sv_value::{NoMemory, Seq};
+use sv_value::{NoMemory, Place, Seq};
 
 /// Appends the object of a target with a select that breaks a rule.
 fn add_before_select(
@@ -31,8 +32,45 @@ fn add_before_select(
     add_selected(alloc, place, &before, touches)
 }
 
+/// Appends the object of a name alone.
+#[tactic(auto, using(crate::proofs::TouchedLaws::touched_none))]
+fn add_alone(
+    alloc: Global,
+    at: Place,
+    written: Alone,
+    touches: &mut Seq<Touch>,
+) -> Result<(), NoMemory>
+    ensures { OnOk result (Touched touches.old touches.new (alone_touches at written.entry)) }
+{
+    match written {
+        Alone::Variable(path) => add_write(alloc, at, path, touches),
+        Alone::Nothing => Ok(()),
+    }
+}
+
 /// Appends the objects of a target that is no concatenation, also where one of its selects breaks a rule.
 pub(crate) fn add_part(
+    alloc: Global,
+    how: How,
+    root: &Root,
+    suffixes: &[Suffix],
+    around: &Around,
+    touches: &mut Seq<Touch>,
+) -> Result<(), NoMemory>
+    ensures { OnOk result (Touched touches.old touches.new
+        (writers.part_touches how (around_in around.now) root.now (view.suffix_list suffixes.now))) }
+{
+    match suffixes {
+        [] => match written_alone(root, around) {
+            Some(written) => add_alone(alloc, place_of_root(root), written, touches),
+            None => add_typed(alloc, how, root, suffixes, around, touches),
+        },
+        _ => add_typed(alloc, how, root, suffixes, around, touches),
+    }
+}
+
+/// The same by the type of the target.
+fn add_typed(
     alloc: Global,
     how: How,
     root: &Root,

@@ -6,20 +6,20 @@ ghost use Rattle.sv_elab_touch.specs.Touched.{Touched, good_touches};
 use std::alloc::Global;
 use sv_elab_expr::sv_elab_select::Spot;
 use sv_elab_writers::Touch;
-use sv_names::{AsTarget, Begin, Checked, Path, Typed, copy_path};
-use sv_value::{NoMemory, Place, Seq};
+use sv_names::{AsTarget, Begin, Checked, Typed, copy_path};
+use sv_value::{NoMemory, Place, Seq, Text};
 
 /// Appends a write of an object.
 #[tactic(auto, using(crate::proofs::TouchedLaws::touched_one))]
-fn add_write(
+pub(crate) fn add_write(
     alloc: Global,
     at: Place,
-    object: &Path,
+    object: &[Text],
     touches: &mut Seq<Touch>,
 ) -> Result<(), NoMemory>
     ensures { OnOk result (Touched touches.old touches.new (writers.Writes at object.now ∷ [])) }
 {
-    let object = copy_path(alloc, object.as_slice())?;
+    let object = copy_path(alloc, object)?;
     touches.push(Touch::Writes { at, object })
 }
 
@@ -34,8 +34,8 @@ pub(crate) fn add_written(
     ensures { OnOk result (Touched touches.old touches.new (writers.written_by at target.now.begins)) }
 {
     match target.begins() {
-        Some(Begin::Variable(path)) => add_write(alloc, at, path, touches),
-        Some(Begin::StaticProperty(path)) => add_write(alloc, at, path, touches),
+        Some(Begin::Variable(path)) => add_write(alloc, at, path.as_slice(), touches),
+        Some(Begin::StaticProperty(path)) => add_write(alloc, at, path.as_slice(), touches),
         _ => Ok(()),
     }
 }

@@ -31,7 +31,7 @@ pub fn may_be_item(alloc: Global, at: Place, t: &Ty) -> Result<Element, Refusal>
             bounds,
             is_written,
         } => {
-            let scope = copy_path(alloc, scope.as_slice())?;
+            let scope = scope.share()?;
             Ok(Element::Enum {
                 scope,
                 at: *at,

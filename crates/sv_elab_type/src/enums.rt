@@ -13,7 +13,9 @@ ghost use Rattle.sv_elab_type.specs.Waiting as waiting;
 
 use std::alloc::Global;
 use sv_flat::Bounds;
-use sv_names::{Checked, Declarations, Fault, Kind, Known, Refusal, Scope, Ty, copy_path, whole};
+use sv_names::{
+    Checked, Declarations, Fault, Kind, Known, Refusal, Scope, SharedPath, Ty, copy_path, whole,
+};
 use sv_tree::{EnumItem, Name};
 use sv_value::{Integral, NoMemory, Place, Seq, Text};
 
@@ -110,7 +112,7 @@ fn enum_on(alloc: Global, path: &[Text], at: Place, place: Place, base: &Ty) -> 
             bounds,
             is_written,
         } => {
-            let scope = copy_path(alloc, path)?;
+            let scope = SharedPath::new(alloc, copy_path(alloc, path)?)?;
             Ok(Ty::Enum {
                 scope,
                 at,
@@ -143,7 +145,7 @@ pub(crate) fn enum_over(
 pub(crate) fn plain_enum(alloc: Global, path: &[Text], at: Place) -> Result<Ty, Refusal>
     ensures { Gives result (Good (tys.Enum path.now at (types.integral 32 true false) (types.whole 32) false)) }
 {
-    let scope = copy_path(alloc, path)?;
+    let scope = SharedPath::new(alloc, copy_path(alloc, path)?)?;
     let integral = Integral {
         width: 32,
         signed: true,

@@ -22,7 +22,10 @@ use crate::types::{implied, type_of};
 use crate::vectors::{is_signed, vector_type};
 use std::alloc::Global;
 use sv_elab_scope::{Declared, Entry, Means, Stage, Storage};
-use sv_names::{Around, Checked, Named, Path, Protection, Refusal, Ty, Typed, copy_path, judged};
+use sv_names::{
+    Apart, Around, Checked, Named, Path, Protection, Refusal, SharedPath, Ty, Typed, copy_path,
+    judged,
+};
 use sv_tree::{ImpliedType, Name, Range};
 use sv_value::{NoMemory, Text};
 
@@ -50,7 +53,7 @@ fn variable(
 {
     match t {
         Ok(t) => {
-            let path = within(alloc, path, name)?;
+            let path = SharedPath::new(alloc, within(alloc, path, name)?)?;
             Ok(Named::Variable(path, t))
         }
         Err(e) => Err(e),
@@ -63,7 +66,7 @@ fn net(alloc: Global, path: &[Text], name: &Name, t: Result<Ty, Refusal>) -> Res
 {
     match t {
         Ok(t) => {
-            let path = within(alloc, path, name)?;
+            let path = SharedPath::new(alloc, within(alloc, path, name)?)?;
             Ok(Named::Net(path, t))
         }
         Err(e) => Err(e),
@@ -147,21 +150,27 @@ fn type_name(t: Result<Ty, Refusal>) -> Result<Named, Refusal>
 }
 
 /// A parameter.
-fn parameter(t: Result<Typed, Refusal>) -> Result<Named, Refusal>
+fn parameter(alloc: Global, t: Result<Typed, Refusal>) -> Result<Named, Refusal>
     ensures { (x : checked typed) → Gives t x → Gives result (given (λ t. names.Constant t true) x) }
 {
     match t {
-        Ok(t) => Ok(Named::Constant(t, true)),
+        Ok(t) => {
+            let t = Apart::new(alloc, t)?;
+            Ok(Named::Constant(t, true))
+        }
         Err(e) => Err(e),
     }
 }
 
 /// An item of an enum.
-fn item(t: Result<Typed, Refusal>) -> Result<Named, Refusal>
+fn item(alloc: Global, t: Result<Typed, Refusal>) -> Result<Named, Refusal>
     ensures { (x : checked typed) → Gives t x → Gives result (given (λ t. names.Constant t false) x) }
 {
     match t {
-        Ok(t) => Ok(Named::Constant(t, false)),
+        Ok(t) => {
+            let t = Apart::new(alloc, t)?;
+            Ok(Named::Constant(t, false))
+        }
         Err(e) => Err(e),
     }
 }
@@ -205,7 +214,7 @@ fn port_is_net(is_input: bool, is_wire: bool, is_written: bool, t: &Ty) -> bool
 }
 
 /// What a port of a type stands for in its unit.
-fn port_named(path: Path, is_input: bool, is_wire: bool, is_written: bool, ty: Ty) -> Named
+fn port_named(path: SharedPath, is_input: bool, is_wire: bool, is_written: bool, ty: Ty) -> Named
     ensures { result ≡ declarations.port_named is_input is_wire is_written path ty }
 {
     let is_net = port_is_net(is_input, is_wire, is_written, &ty);
@@ -234,7 +243,7 @@ fn port(
 {
     match t {
         Ok(t) => {
-            let path = within(alloc, path, name)?;
+            let path = SharedPath::new(alloc, within(alloc, path, name)?)?;
             Ok(port_named(path, is_input, is_wire, is_written, t))
         }
         Err(e) => Err(e),
@@ -349,11 +358,13 @@ pub fn value_of_entry(
             port(alloc, path, name, *is_input, *is_wire, is_written(ty), t)
         }
         Declared::Parameter(ty, source) => {
-            parameter(parameter_value(alloc, around, path, ty, *source))
+            let t = parameter_value(alloc, around, path, ty, *source);
+            parameter(alloc, t)
         }
         Declared::Type(ty) => type_name(type_of(alloc, around, path, ty)),
         Declared::Item { ty, value, steps } => {
-            item(item_value(alloc, around, path, name, ty, *value, *steps))
+            let t = item_value(alloc, around, path, name, ty, *value, *steps);
+            item(alloc, t)
         }
         Declared::Class(path, name) => {
             let class = class_named(alloc, path, name)?;

@@ -78,7 +78,11 @@ pub fn parts_from(
         subroutine_paths: _,
         clocking_paths: _,
     } = so_far;
-    let mut all = Seq::new(alloc);
+    let count = objects
+        .as_slice()
+        .len()
+        .saturating_add(samples.as_slice().len());
+    let mut all = Seq::from_vec(Vec::with_capacity(alloc, count)?);
     add_driven(&drives, objects, &mut all)?;
     add_driven(&drives, samples, &mut all)?;
     let routines = all_routines(subroutines, places, routines)?;

@@ -15,7 +15,7 @@ use std::alloc::Global;
 use sv_elab_expr::named;
 use sv_elab_expr::sv_elab_name::{local_typed, object_typed};
 use sv_elab_expr::sv_elab_select::Spot;
-use sv_names::{Around, Begin, Checked, Fault, Named, Refusal, Typed, copy_path, judged};
+use sv_names::{Around, Begin, Checked, Fault, Named, Refusal, Typed, judged};
 use sv_tree::{Name, Root};
 use sv_value::{Place, Seq};
 
@@ -47,9 +47,8 @@ fn variable_typed(
 {
     match named {
         Named::Variable(path, ty) => {
-            let path = path.as_slice();
-            let begins = Begin::Variable(copy_path(alloc, path)?);
-            let variable = object_typed(alloc, around, at, path, ty, begins)?;
+            let begins = Begin::Variable(path.share()?);
+            let variable = object_typed(alloc, around, at, path.as_slice(), ty, begins)?;
             Ok(Some(variable))
         }
         Named::Local { ty, .. } => {

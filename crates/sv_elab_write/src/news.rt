@@ -58,6 +58,7 @@ fn with_constructor(
         None => arguments(alloc, around, at, &[], args),
         Some(found) => match &found.known.value {
             Checked::Good(Named::Subroutine(callee)) => {
+                let callee = callee.get();
                 let passed = arguments(alloc, around, at, callee.formals.as_slice(), args);
                 where_also(passed, may_be_named(around, callee.protection, class, at))
             }
@@ -195,7 +196,7 @@ fn outputs_of_constructor(alloc: Global, found: Option<Found>) -> Result<Seq<boo
         None => Ok(Seq::new(alloc)),
         Some(found) => match &found.known.value {
             Checked::Good(Named::Subroutine(callee)) => {
-                outputs_of(alloc, callee.formals.as_slice())
+                outputs_of(alloc, callee.get().formals.as_slice())
             }
             _ => Ok(Seq::new(alloc)),
         },

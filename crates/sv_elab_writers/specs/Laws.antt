@@ -29,6 +29,10 @@ abbrev pub is_strict : Law → Writer → Bool
 is_strict law.Continuous = is_continuous
 is_strict law.Alone = is_alone
 
+-- whether a write lets no other beside it
+abbrev pub strict : Law → Write → Bool
+strict l w = is_strict l w.writer
+
 -- a write, where it lets no other beside it
 abbrev pub strict_of : Law → Write → List Write
 strict_of l w = if is_strict l w.writer then w ∷ [] else []

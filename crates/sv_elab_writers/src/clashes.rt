@@ -197,8 +197,31 @@ fn stands(law: Law, all: &Marked, strict: &Marked, w: Write) -> Checked<()>
     }
 }
 
-/// The rule for each write.
+/// Whether a write lets no other beside it.
+fn has_strict(law: Law, writes: &[Write]) -> bool
+    ensures { result ≡ writers.some (laws.strict law) (map write_in writes.now) }
+{
+    for w in writes {
+        if is_strict(law, w.writer) {
+            return true;
+        }
+    }
+    false
+}
+
+/// The rule for each write. Where all let others beside them, none breaks it.
+#[tactic(auto, using(crate::proofs::StrictLaws::none_strict))]
 pub(crate) fn all_stand(alloc: Global, law: Law, writes: &[Write]) -> Result<Checked<()>, NoMemory>
+    ensures { IfOk result (λ c. c ≡ laws.all_stand law (map write_in writes.now)) }
+{
+    if !has_strict(law, writes) {
+        return Ok(Checked::Good(()));
+    }
+    each_stands(alloc, law, writes)
+}
+
+/// The rule for each write, over the marks of all.
+fn each_stands(alloc: Global, law: Law, writes: &[Write]) -> Result<Checked<()>, NoMemory>
     ensures { IfOk result (λ c. c ≡ laws.all_stand law (map write_in writes.now)) }
 {
     let all = marked(alloc, writes)?;
@@ -233,7 +256,22 @@ fn is_written_continuously(object: &[Text], marked: &Marked) -> bool
 }
 
 /// No variable with an initializer is written continuously.
+#[tactic(auto, using(crate::proofs::StrictLaws::none_continued))]
 pub(crate) fn none_initialized(
+    alloc: Global,
+    writes: &[Write],
+    variables: &[Initialized],
+) -> Result<Checked<()>, NoMemory>
+    ensures { IfOk result (λ c. c ≡ all (writers.not_initialized (map write_in writes.now)) (map initialized_in variables.now)) }
+{
+    if !has_strict(Law::Continuous, writes) {
+        return Ok(Checked::Good(()));
+    }
+    none_continued(alloc, writes, variables)
+}
+
+/// The same, over the marks of all writes.
+fn none_continued(
     alloc: Global,
     writes: &[Write],
     variables: &[Initialized],

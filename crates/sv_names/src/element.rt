@@ -3,7 +3,7 @@ ghost use Rattle.std.specs.Prelude.{◌≡◌, IfOk};
 ghost use Rattle.sv_names.specs.Checked.{same_place as one_place};
 ghost use Rattle.sv_names.specs.Types as types;
 
-use crate::path::{Path, copy_path, same_path};
+use crate::path::{Path, SharedPath, copy_path, same_path};
 use crate::ty::Ty;
 use std::alloc::Global;
 use sv_flat::Bounds;
@@ -23,7 +23,7 @@ pub enum Element {
     /// An enum (6.19).
     Enum {
         /// The scope of its declaration.
-        scope: Path,
+        scope: SharedPath,
         /// The place of its declaration, which with the scope tells it from others.
         at: Place,
         /// The type of its base.
@@ -82,7 +82,7 @@ impl Element {
                 bounds,
                 is_written,
             } => Ok(Element::Enum {
-                scope: copy_path(alloc, scope.as_slice())?,
+                scope: scope.share()?,
                 at: *at,
                 integral: *integral,
                 bounds: *bounds,
@@ -114,7 +114,7 @@ impl Element {
                 bounds,
                 is_written,
             } => Ok(Ty::Enum {
-                scope: copy_path(alloc, scope.as_slice())?,
+                scope: scope.share()?,
                 at: *at,
                 integral: *integral,
                 bounds: *bounds,

@@ -31,7 +31,7 @@ fn own_method<'a>(class: &'a ClassInfo, name: &[u8]) -> Option<&'a Callee>
         return None;
     };
     match &found.known.value {
-        Checked::Good(Named::Subroutine(callee)) => Some(callee),
+        Checked::Good(Named::Subroutine(callee)) => Some(callee.get()),
         _ => None,
     }
 }

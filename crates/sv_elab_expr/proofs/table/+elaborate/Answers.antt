@@ -95,8 +95,8 @@ target_in-returns-in_ok-parts-in-Join-clause-ok t c =
     ∙ sym (ap (target_in c.args.how (around_in c.args.around.now)) whole) in
     subst (λ (z : Option (Checked (List Spot))). IfOk c.as_concatenation.result (λ x. x ≡ z)) made c.as_concatenation.ensures.ok
 
-pub target_of_name-loop-suffix-preserved : goal.target_of_name-loop-suffix-preserved
-target_of_name-loop-suffix-preserved t c =
+pub target_followed-loop-suffix-preserved : goal.target_followed-loop-suffix-preserved
+target_followed-loop-suffix-preserved t c =
     let ar = around_in c.args.around.now in
     let pe = c.place_of_root-place.result in
     let ss = c.args.suffixes.now in

@@ -22,8 +22,8 @@ invariant-targets_in-loop-e l =
     l.done.items ++ targets_in l.how (around_in l.place) (expr_list (drop l.e-index l.items))
     ≡ targets_in l.how (around_in l.around) (expr_list l.items)
 
-abbrev pub invariant-target_of_name-loop-suffix : goal.invariant-target_of_name-loop-suffix
-invariant-target_of_name-loop-suffix l =
+abbrev pub invariant-target_followed-loop-suffix : goal.invariant-target_followed-loop-suffix
+invariant-target_followed-loop-suffix l =
     (l.left ≡ length (drop l.suffix-index l.suffixes))
     × (things (around_in l.around) l.place (given thing_in l.thing) (suffix_list (drop l.suffix-index l.suffixes))
     ≡ things (around_in l.around) l.place (given thing_in l.initial.thing) (suffix_list l.suffixes))

@@ -16,5 +16,5 @@ returns c =
     let k = Some c.args.of.now.class.now in
     let m = pure_method (head c.args.of.now.head.now) in
     ap Subroutine
-    (c.in_ok-callee.ensures ∙ ap (λ (s : Scope). callee_within ar s true k m) c.in_ok-scope.ensures
+    (c.in_ok-kept.ensures ∙ c.in_ok-callee.ensures ∙ ap (λ (s : Scope). callee_within ar s true k m) c.in_ok-scope.ensures
     ∙ head_is (is_last c.args.stage) ar c.args.path.now true k m)

@@ -15,5 +15,5 @@ returns c =
     let k = class_of c.args.of.now in
     let m = method_of c.args.of.now in
     ap Subroutine
-    (c.in_ok-callee.ensures ∙ ap (λ (s : Scope). callee_within ar s false k m) c.in_ok-scope.ensures
+    (c.in_ok-kept.ensures ∙ c.in_ok-callee.ensures ∙ ap (λ (s : Scope). callee_within ar s false k m) c.in_ok-scope.ensures
     ∙ head_is (is_last c.args.stage) ar c.args.path.now false k m)

@@ -1,4 +1,4 @@
-use Rattle.std.proofs.Common.{rules, ◌≡◌, ◌∙◌, ◌+◌, List, [], ◌∷◌, ◌++◌, map, length, drop, refl, sym, ap, subst}
+use Rattle.std.proofs.Common.{rules, ◌≡◌, ◌∙◌, List, refl, sym, subst}
 use Rattle.std.specs.Prelude.{OnOk}
 use Rattle.sv_tree.specs.declared.expr.Lval.{Lval, the_lemmas}
 use Rattle.sv_tree.specs.StmtView.{lval, lval_list, lvals_are}

@@ -4,7 +4,7 @@ use Rattle.sv_names.specs.Writers.{not_initialized, some}
 use Rattle.sv_elab_writers.specs.Laws.{continues}
 use Rattle.sv_elab_writers.specs.Views.{write_in, initialized_in}
 use Rattle.sv_elab_writers.proofs.ClashLaws.{one_more}
-use Rattle.sv_elab_writers.proofs.clashes.none_initialized.Goals as goal
+use Rattle.sv_elab_writers.proofs.clashes.none_continued.Goals as goal
 
 pub loop-one-preserved : goal.loop-one-preserved
 loop-one-preserved c =

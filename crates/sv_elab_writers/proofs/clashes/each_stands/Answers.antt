@@ -3,7 +3,7 @@ use Rattle.sv_names.specs.Checked.{◌where_also◌}
 use Rattle.sv_elab_writers.specs.Views.{write_in}
 use Rattle.sv_elab_writers.specs.Laws.{stands}
 use Rattle.sv_elab_writers.proofs.ClashLaws.{one_more}
-use Rattle.sv_elab_writers.proofs.clashes.all_stand.Goals as goal
+use Rattle.sv_elab_writers.proofs.clashes.each_stands.Goals as goal
 
 pub loop-w-preserved : goal.loop-w-preserved
 loop-w-preserved c =
